@@ -1,0 +1,55 @@
+-- When a bank is well formed: one definition for each clause of 01's sentence "Well formed: ..".
+use Prim.Native.Nat.{ℕ, _-_, _*_, _%_, _^_}
+use mathlib.Core.Bool.{Bool, true, not, _&&_, _||_}
+use mathlib.Core.List.{List, [], _∷_}
+use lib.Dec.{leb, ltb, eqb}
+use Rattle.ring.specs.declared.Ring.{Ring}
+use Rattle.bank.specs.declared.Queues.{Queues}
+use Rattle.bank.specs.declared.Regs.{Regs}
+use Rattle.bank.specs.declared.Control.{Control}
+use Rattle.bank.specs.declared.Transfer.{Transfer}
+use Rattle.bank.specs.declared.Phase.{Phase}
+use Rattle.bank.specs.declared.Bank.{Bank}
+use Rattle.bank.specs.Phases.{idle, transfer, limit, partBytes}
+use Rattle.bank.specs.SetUp.{sizeOk}
+
+-- "set-up numbers in range; each head below and each level at most its capacity". The ID is in range by its type.
+abbrev pub ringOk : ℕ → Ring → Bool
+ringOk least r = sizeOk least (r .cap .0) (r .mark .0) && ltb (r .head) (r .cap .0) && leb (r .level .0) (r .cap .0)
+
+unfoldable pub queuesOk : Queues → Bool
+queuesOk q = ringOk 2 (q .cmd) && ringOk 1 (q .cmdr) && ringOk 1 (q .sdo) && ringOk 2 (q .sdi) && ringOk 1 (q .ibi)
+
+-- "every stored field within its bits": OPS 6:0, IBI_CONFIG 1:0, an address of 7 bits, three flags a device. The types of the others
+-- are as wide as their fields.
+unfoldable pub regsOk : Regs → Bool
+regsOk g = ltb (g .ops) 128 && ltb (g .config) 4 && ltb (g .selected) 128
+
+unfoldable pub flagsOk : List ℕ → Bool
+flagsOk [] = true
+flagsOk (f ∷ fs) = ltb f 8 && flagsOk fs
+
+-- "at most one open transfer, with bytes moved at most the commanded length .. and between 0 and 3 bytes gathered or left as that
+-- count says": so many bytes stand at the top of the part word, and the rest of it is 0. The length has 12 bits.
+abbrev pub transferOk : Transfer → ℕ → ℕ → Bool
+transferOk t most parts = ltb (t .length .0) 4096 && leb (t .moved .0) most && eqb (t .part % 2 ^ (32 - 8 * parts)) 0
+
+unfoldable pub phaseOk : Phase → Bool
+phaseOk p = transferOk (transfer p) (limit p) (partBytes p)
+
+-- "in reset all heads, levels, syncs and pending bits 0 and no transfer open"
+abbrev pub ringClear : Ring → Bool
+ringClear r = eqb (r .head) 0 && eqb (r .level .0) 0
+
+unfoldable pub queuesClear : Queues → Bool
+queuesClear q = ringClear (q .cmd) && ringClear (q .cmdr) && ringClear (q .sdo) && ringClear (q .sdi) && ringClear (q .ibi)
+
+unfoldable pub controlClear : Control → Bool
+controlClear c = eqb (c .sync) 0 && eqb (c .ibisync) 0 && not (c .cmdrpending) && not (c .ibipending) && not (c .daapending)
+
+unfoldable pub resetOk : Control → Phase → Queues → Bool
+resetOk c p q = not (c .held) || (queuesClear q && controlClear c && idle p)
+
+unfoldable pub wellFormed : Bank → Bool
+wellFormed b =
+    queuesOk (b .state .queues) && regsOk (b .state .regs) && phaseOk (b .state .phase) && resetOk (b .state .control) (b .state .phase) (b .state .queues) && flagsOk (b .flags)

@@ -1,0 +1,3 @@
+pub mod Phases
+pub mod SetUp
+pub mod Formed

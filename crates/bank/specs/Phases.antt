@@ -1,0 +1,70 @@
+-- What a phase says of the open transfer.
+use Prim.Native.Nat.{ℕ, _-_, _%_}
+use mathlib.Core.Bool.{Bool, true, false, cond, not, _&&_, _||_}
+use lib.Dec.{eqb, leb}
+use Rattle.ring.specs.Units.{bytes}
+use Rattle.bank.specs.declared.Kind.{Kind}
+use Rattle.bank.specs.declared.Kind.the-variants.{Private, Direct, Broadcast}
+use Rattle.bank.specs.declared.Transfer.{Transfer}
+use Rattle.bank.specs.declared.Phase.{Phase}
+use Rattle.bank.specs.declared.Phase.the-variants.{Idle, Writing, Reading, Unrequested, Requested, Answered}
+
+abbrev pub stage : Phase → ℕ
+stage Idle = 0
+stage (Writing t) = 1
+stage (Reading t) = 2
+stage (Unrequested t) = 3
+stage (Requested t) = 4
+stage (Answered t) = 5
+
+abbrev pub idle : Phase → Bool
+idle p = eqb (stage p) 0
+
+abbrev pub writing : Phase → Bool
+writing p = eqb (stage p) 1
+
+abbrev pub reading : Phase → Bool
+reading p = eqb (stage p) 2
+
+-- an address assignment (ENTDAA), in any of its three states
+abbrev pub assigning : Phase → Bool
+assigning p = leb 3 (stage p)
+
+-- no request was made since its start
+abbrev pub unrequested : Phase → Bool
+unrequested p = eqb (stage p) 3
+
+-- a request is open
+abbrev pub requested : Phase → Bool
+requested p = eqb (stage p) 4
+
+-- the open transfer; where none is open, one of zeros, so that definitions need no case for it
+abbrev pub transfer : Phase → Transfer
+transfer Idle = record { kind = Private; header = false; length = bytes 0; moved = bytes 0; attached = false; part = 0 }
+transfer (Writing t) = t
+transfer (Reading t) = t
+transfer (Unrequested t) = t
+transfer (Requested t) = t
+transfer (Answered t) = t
+
+abbrev pub private : Kind → Bool
+private Private = true
+private Direct = false
+private Broadcast = false
+
+abbrev pub broadcast : Kind → Bool
+broadcast Private = false
+broadcast Direct = false
+broadcast Broadcast = true
+
+-- the device of "a private transfer or direct CCC" was not attached at the start
+abbrev pub unattached : Phase → Bool
+unattached p = not (assigning p) && not (broadcast (transfer p .kind)) && not (transfer p .attached)
+
+-- "bytes moved at most the commanded length (0 for ENTDAA and for an unattached device)"
+abbrev pub limit : Phase → ℕ
+limit p = cond (assigning p || unattached p) 0 (transfer p .length .0)
+
+-- "between 0 and 3 bytes gathered or left as that count says": gathered of a read, left of a write's last word
+abbrev pub partBytes : Phase → ℕ
+partBytes p = cond (reading p) (transfer p .moved .0 % 4) ((4 - transfer p .moved .0 % 4) % 4)

@@ -1,0 +1,94 @@
+// One controller's state: five rings, the registers, the open transfer, the device table and the offload memories.
+ghost use mathlib.Core.Path.{_≡_};
+ghost use mathlib.Core.Bool.{cond};
+use ring::Bytes;
+use ring::Ring;
+
+pub mod formed;
+pub mod fresh;
+pub mod phases;
+
+// The five queues, in the order of their areas in the store.
+pub struct Queues {
+    pub cmd: Ring,
+    pub cmdr: Ring,
+    pub sdo: Ring,
+    pub sdi: Ring,
+    pub ibi: Ring,
+}
+
+// The registers that a reset leaves: ID, SCRATCH, IRQ_MASK, OPS but its bit 7, IBI_CONFIG, and the address that
+// DEV_CHAR selects.
+pub struct Regs {
+    pub id: u8,
+    pub scratch: u32,
+    pub mask: u8,
+    pub ops: u8,
+    pub config: u8,
+    pub selected: u8,
+}
+
+// What a reset sets, besides the queues and the transfer: the ENABLE bit, the sync of receipts and that of interrupts,
+// and the pending bits 5, 6 and 7.
+pub struct Control {
+    pub held: bool,
+    pub sync: u8,
+    pub ibisync: u8,
+    pub cmdrpending: bool,
+    pub ibipending: bool,
+    pub daapending: bool,
+}
+
+pub enum Kind {
+    Private,
+    // A CCC for one device.
+    Direct,
+    // A CCC for all.
+    Broadcast,
+}
+
+// An open transfer: the fields of its command that a later event asks for, the bytes moved, whether its device was
+// attached at the start, and the part word, which has the bytes gathered, or those left to send, at its top.
+pub struct Transfer {
+    pub kind: Kind,
+    pub header: bool,
+    pub length: Bytes,
+    pub moved: Bytes,
+    pub attached: bool,
+    pub part: u32,
+}
+
+// The phase of the transfer. An address assignment (ENTDAA) has had no request, has one open, or has had some and none
+// is open.
+pub enum Phase {
+    Idle,
+    Writing(Transfer),
+    Reading(Transfer),
+    Unrequested(Transfer),
+    Requested(Transfer),
+    Answered(Transfer),
+}
+
+// All of a bank but its arrays.
+pub struct State {
+    pub queues: Queues,
+    pub regs: Regs,
+    pub control: Control,
+    pub phase: Phase,
+}
+
+// 01: "A bank is one controller's state." Beside the rest stand the flags of the 128 devices (bit 0 attached, bit 1 may
+// interrupt, bit 2 sends a data byte), the offload commands and the offload data words.
+pub struct Bank {
+    pub state: State,
+    pub flags: [u8; 128],
+    pub commands: [u32; 16],
+    pub payloads: [u32; 16],
+}
+
+// One of two numbers, by a test.
+pub fn select(test: bool, yes: u32, no: u32) -> u32
+    ensures { λ r. ⌜ r ≡ cond test yes no ⌝ }
+{
+    if test { yes } else { no }
+}

@@ -1,0 +1,98 @@
+-- The worked session of 01, and the cases that it marks P, in one table: calls on the session's bank, then calls with their answers.
+use Prim.Native.Nat.{ℕ, zero, suc}
+use mathlib.Core.Bool.{Bool, true, _&&_}
+use mathlib.Core.List.{List, [], _∷_}
+use lib.Dec.{eqb}
+use lib.ListN.{replicate}
+use Rattle.bank.specs.declared.fresh.Sizes.{Sizes}
+use Rattle.bank.specs.SetUp.{setUp}
+use Rattle.model.specs.declared.Call.{Call}
+use Rattle.model.specs.declared.Call.the-variants.{Read, Write, Start, Send, Receive, Finish, Interrupt, Request, Take}
+use Rattle.model.specs.Engine.{step, final}
+use Rattle.model.specs.Rings.{Controller, rings}
+
+abbrev pub sizes : ℕ → ℕ → ℕ → ℕ → ℕ → Sizes
+sizes a b c d e = record { cmd = a; cmdr = b; sdo = c; sdi = d; ibi = e }
+
+-- "Its bank has every capacity 4, almost-empty watermarks 1, almost-full 3, ID 0."
+abbrev pub session : Controller
+session = record { bank = setUp (sizes 4 4 4 4 4) (sizes 1 3 1 3 3) 0 .bank; store = replicate 20 0 }
+
+-- a call, the value and the number of its answer
+infix 70 _⇝_·_
+pub data Line : Type 0 where
+  _⇝_·_ : Call → ℕ → ℕ → Line
+
+unfoldable pub answered : Controller → List Line → Bool
+answered l [] = true
+answered l ((c ⇝ v · n) ∷ ls) = eqb (step rings l c .answer .value) v && eqb (step rings l c .answer .number) n && answered (step rings l c .next) ls
+
+pub record Case : Type 0 where
+  pub before : List Call
+  pub lines : List Line
+
+infix 5 _then_
+abbrev pub _then_ : List Call → List Line → Case
+cs then ls = record { before = cs; lines = ls }
+
+unfoldable pub allHold : List Case → Bool
+allHold [] = true
+allHold (k ∷ ks) = answered (final rings session (k .before)) (k .lines) && allHold ks
+
+abbrev pub release : Call
+release = Write 0x040 0
+
+-- device 8: attached, may interrupt, sends a byte
+abbrev pub device8 : Call
+device8 = Write 0x180 0x110e
+
+-- a private write of no bytes, its receipt read, n times
+unfoldable pub rounds : ℕ → List Call
+rounds zero = []
+rounds (suc n) = Write 0xd4 0x10 ∷ Start ∷ Finish 0 ∷ Read 0xd8 ∷ rounds n
+
+unfoldable pub worked : Case
+worked =
+    [] then Write 0x040 0 ⇝ 0 · 0 ∷ Write 0x180 0x1102 ⇝ 0 · 0 ∷ Write 0xdc 0xa5c30000 ⇝ 0 · 0 ∷ Write 0xd4 0x210 ⇝ 0 · 0 ∷ Start ⇝ 0x210 · 0
+    ∷ Send ⇝ 0xa5 · 0 ∷ Send ⇝ 0xc3 · 0 ∷ Finish 0 ⇝ 0x200 · 0 ∷ Read 0xd8 ⇝ 0x200 · 0 ∷ Read 0xd8 ⇝ 0 · 3 ∷ []
+
+-- "a third byte at length 2 is 11", "the session's F line"
+unfoldable pub thirdByte : Case
+thirdByte = release ∷ device8 ∷ Write 0xdc 0xa5c30000 ∷ Write 0xd4 0x210 ∷ Start ∷ Send ∷ Send ∷ [] then Send ⇝ 0 · 11 ∷ Finish 0 ⇝ 0x200 · 0 ∷ []
+
+-- "source after release 0x05; status 0x07; room 4"
+unfoldable pub released : Case
+released = release ∷ [] then Read 0x088 ⇝ 0x05 · 0 ∷ Read 0x0e8 ⇝ 0x07 · 0 ∷ Read 0x0c0 ⇝ 4 · 0 ∷ []
+
+-- "then 0 after four writes; a fifth write is 1"
+unfoldable pub fifthWrite : Case
+fifthWrite = release ∷ Write 0xd4 1 ∷ Write 0xd4 2 ∷ Write 0xd4 3 ∷ Write 0xd4 4 ∷ [] then Read 0x0c0 ⇝ 0 · 0 ∷ Write 0xd4 5 ⇝ 0 · 1 ∷ []
+
+-- "a CCC word alone is 9"
+unfoldable pub cccAlone : Case
+cccAlone = release ∷ Write 0xd4 0x400000 ∷ [] then Start ⇝ 0 · 9 ∷ []
+
+-- "address words 0x10000000 and 0x13000000 are taken as 8 and 9, 0x11000000 is 19"
+unfoldable pub addresses : Case
+addresses =
+    release ∷ Write 0xd4 0x400000 ∷ Write 0xd4 0x07 ∷ Start ∷ Request 1 2 ∷ Write 0xdc 0x10000000 ∷ []
+    then Take ⇝ 8 · 0 ∷ Request 3 4 ⇝ 0 · 0 ∷ Write 0xdc 0x11000000 ⇝ 0 · 0 ∷ Take ⇝ 8 · 19 ∷ Write 0xdc 0x13000000 ⇝ 0 · 0 ∷ Take ⇝ 9 · 0 ∷ Finish 0 ⇝ 0 · 0 ∷ []
+
+-- "a read of 00 01 02 03 04 gives 0x00010203, 0x04000000"
+unfoldable pub fiveBytes : Case
+fiveBytes =
+    release ∷ device8 ∷ Write 0xd4 0x511 ∷ Start ∷ Receive 0 ∷ Receive 1 ∷ Receive 2 ∷ Receive 3 ∷ Receive 4 ∷ []
+    then Finish 0 ⇝ 0x500 · 0 ∷ Read 0xe0 ⇝ 0x00010203 · 0 ∷ Read 0xe0 ⇝ 0x04000000 · 0 ∷ []
+
+-- "an interrupt from 8, which sends a byte, with 0x5a gives 0x00105a00"
+unfoldable pub interrupt8 : Case
+interrupt8 = release ∷ device8 ∷ Write 0x140 3 ∷ [] then Interrupt 8 0x5a ⇝ 0x00105a00 · 0 ∷ []
+
+-- "the 257th receipt has sync 0"
+unfoldable pub receipt257 : Case
+receipt257 =
+    release ∷ device8 ∷ rounds 255
+    then Write 0xd4 0x10 ⇝ 0 · 0 ∷ Start ⇝ 0x10 · 0 ∷ Finish 0 ⇝ 0xff · 0 ∷ Write 0xd4 0x10 ⇝ 0 · 0 ∷ Start ⇝ 0x10 · 0 ∷ Finish 0 ⇝ 0 · 0 ∷ []
+
+unfoldable pub table : List Case
+table = worked ∷ thirdByte ∷ released ∷ fifthWrite ∷ cccAlone ∷ addresses ∷ fiveBytes ∷ interrupt8 ∷ receipt257 ∷ []

@@ -1,0 +1,36 @@
+-- One step of any engine: what it shows of its state, the tests that stand before every call, and how it settles an effect.
+use Prim.Native.Nat.{ℕ}
+use mathlib.Core.List.{List, [], _∷_}
+use mathlib.Core.Option.{Option, none, some}
+use Rattle.model.specs.declared.Call.{Call}
+use Rattle.model.specs.declared.Answer.{Answer}
+use Rattle.model.specs.View.{View}
+use Rattle.model.specs.Decision.{Effect, Decision, first, effect}
+use Rattle.model.specs.Calls.{decide}
+
+pub record Engine (B : Type 0) : Type 0 where
+  pub view : B → View
+  pub guard : B → Decision → Decision
+  pub settle : B → Effect → B
+
+pub record Step (B : Type 0) : Type 0 where
+  pub answer : Answer
+  pub next : B
+
+-- "Except for 0 and 19, bank, store and any other lent memory are unchanged and the value is 0."
+abbrev pub outcome : {B : Type 0} → Option ℕ → Effect → B → B → Step B
+outcome (some n) e before after = record { answer = record { value = 0; number = n }; next = before }
+outcome none e before after = record { answer = record { value = e .value; number = e .number }; next = after }
+
+unfoldable pub step : {B : Type 0} → Engine B → B → Call → Step B
+step g b c = let d = g .guard b (decide (g .view b) c) in outcome (first d) (effect d) b (g .settle b (effect d))
+
+-- "Each call gets the bank and store that the last one left"
+module _ {B : Type 0} (g : Engine B) where
+  unfoldable pub final : B → List Call → B
+  final b [] = b
+  final b (c ∷ cs) = final (step g b c .next) cs
+
+  unfoldable pub answers : B → List Call → List Answer
+  answers b [] = []
+  answers b (c ∷ cs) = step g b c .answer ∷ answers (step g b c .next) cs

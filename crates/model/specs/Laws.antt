@@ -1,0 +1,103 @@
+-- The laws of `step`, as statements. proofs/ has a proof of each.
+use Prim.Native.Nat.{ℕ}
+use mathlib.Core.Path.{_≡_}
+use mathlib.Core.Bool.{Bool, true, false, _||_}
+use mathlib.Core.List.{List, []}
+use lib.ListN.{length}
+use Rattle.bank.specs.declared.fresh.Sizes.{Sizes}
+use Rattle.bank.specs.SetUp.{setUp, total}
+use Rattle.bank.specs.Formed.{wellFormed}
+use Rattle.registers.specs.Map.{registerAt}
+use Rattle.model.specs.declared.Call.{Call}
+use Rattle.model.specs.declared.Call.the-variants.{Read, Write, Start, Send, Receive, Finish, Interrupt, Request, Take}
+use Rattle.model.specs.View.{Queue, Cmd, Cmdr, Sdo, Sdi, Ibi, each, of}
+use Rattle.model.specs.Registers.{Row, absent, shows, holds, pushes, takes, enables, acknowledges, row}
+use Rattle.model.specs.Engine.{Step, step, final, answers}
+use Rattle.model.specs.Rings.{Controller, areas, wordsIn, viewRings, rings}
+use Rattle.model.specs.Lists.{ListQueue, Lists, lists}
+
+abbrev pub fresh : Sizes → Sizes → ℕ → List ℕ → Controller
+fresh caps marks id store = record { bank = setUp caps marks id .bank; store = store }
+
+-- the same set-up with every queue an empty list
+abbrev pub emptyQueue : ℕ → ℕ → ListQueue
+emptyQueue cap mark = record { cap = cap; mark = mark; words = [] }
+
+abbrev pub freshLists : Sizes → Sizes → ℕ → Lists
+freshLists c m id =
+    let v = viewRings (fresh c m id []) in
+    record { regs = v .regs; control = v .control; phase = v .phase; tables = v .tables; queues = each (emptyQueue (c .cmd) (m .cmd)) (emptyQueue (c .cmdr) (m .cmdr)) (emptyQueue (c .sdo) (m .sdo)) (emptyQueue (c .sdi) (m .sdi)) (emptyQueue (c .ibi) (m .ibi)) }
+
+-- From the same set-up answered 0, with a store of the right length and any contents, both engines give equal answers along every list
+-- of calls, and each ring then holds the words of its list.
+pub record Agreement (caps marks : Sizes) (id : ℕ) (store : List ℕ) (cs : List Call) : Type 0 where
+  pub sameAnswers : answers rings (fresh caps marks id store) cs ≡ answers lists (freshLists caps marks id) cs
+  pub sameWords : (k : Queue) → (let l = final rings (fresh caps marks id store) cs in wordsIn (of k (areas (l .bank .state .queues))) (l .store) ≡ of k (final lists (freshLists caps marks id) cs .queues) .words)
+
+unfoldable pub EnginesAgree : Type 0
+EnginesAgree =
+    (caps marks : Sizes) (id : ℕ) (store : List ℕ) (cs : List Call) → setUp caps marks id .number ≡ 0 → length store ≡ total (setUp caps marks id .bank .state .queues) → Agreement caps marks id store cs
+
+-- With a store of any other length every call is 22, and changes nothing.
+unfoldable pub WrongLength : Type 0
+WrongLength =
+    (l : Controller) (c : Call) → wellFormed (l .bank) ≡ true → (length (l .store) ≡ total (l .bank .state .queues) → ⊥)
+    → step rings l c ≡ record { answer = record { value = 0; number = 22 }; next = l }
+
+-- Any number but 0 and 19 leaves bank and store as they were, and the value is 0.
+unfoldable pub RefusalChangesNothing : Type 0
+RefusalChangesNothing =
+    (l : Controller) (c : Call) → let r = step rings l c in (r .answer .number ≡ 0 → ⊥) → (r .answer .number ≡ 19 → ⊥) → (r .next ≡ l) × (r .answer .value ≡ 0)
+
+-- A well-formed bank stays so over every call, and a store keeps its length.
+unfoldable pub StaysWellFormed : Type 0
+StaysWellFormed = (l : Controller) (c : Call) → wellFormed (l .bank) ≡ true → wellFormed (step rings l c .next .bank) ≡ true
+
+unfoldable pub StoreKeepsLength : Type 0
+StoreKeepsLength = (l : Controller) (c : Call) → length (step rings l c .next .store) ≡ length (l .store)
+
+-- ── Which queues a call names ─────────────────────────────────────────────────────────────────────────────────
+abbrev pub same : Queue → Queue → Bool
+same Cmd k = of k (each true false false false false)
+same Cmdr k = of k (each false true false false false)
+same Sdo k = of k (each false false true false false)
+same Sdi k = of k (each false false false true false)
+same Ibi k = of k (each false false false false true)
+
+abbrev pub readNames : Row → Queue → Bool
+readNames absent k = false
+readNames (shows f) k = false
+readNames (holds c) k = false
+readNames (pushes q) k = false
+readNames (takes q) k = same q k
+readNames enables k = false
+readNames acknowledges k = false
+
+abbrev pub writeNames : Row → Queue → Bool
+writeNames absent k = false
+writeNames (shows f) k = false
+writeNames (holds c) k = false
+writeNames (pushes q) k = same q k
+writeNames (takes q) k = false
+writeNames enables k = true
+writeNames acknowledges k = false
+
+abbrev pub names : Call → Queue → Bool
+names (Read o) k = readNames (row (registerAt o)) k
+names (Write o v) k = writeNames (row (registerAt o)) k
+names Start k = same Cmd k
+names Send k = same Sdo k
+names (Receive byte) k = same Sdi k
+names (Finish code) k = same Cmdr k || same Sdi k
+names (Interrupt a byte) k = same Ibi k
+names (Request v w) k = same Sdi k
+names Take k = same Sdo k
+
+-- Head, level and words of a queue that a call does not name stay, and so does its place in the store.
+unfoldable pub OthersStay : Type 0
+OthersStay =
+    (l : Controller) (c : Call) (k : Queue) → names c k ≡ false
+    → let m = step rings l c .next in
+    let a = of k (areas (l .bank .state .queues)) in
+    let b = of k (areas (m .bank .state .queues)) in
+    (b ≡ a) × (wordsIn b (m .store) ≡ wordsIn a (l .store))

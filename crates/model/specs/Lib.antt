@@ -1,0 +1,11 @@
+pub mod View
+pub mod Decision
+pub mod Commands
+pub mod Registers
+pub mod Calls
+pub mod Engine
+pub mod Rings
+pub mod Lists
+pub mod Laws
+pub mod Demand
+pub mod Cases

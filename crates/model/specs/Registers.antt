@@ -1,0 +1,158 @@
+-- One row for each register of 01's map: what a read is answered and what a write does follow from the row.
+use Prim.Native.Nat.{ℕ, _+_, _*_, _%_, _^_}
+use mathlib.Core.Bool.{Bool, true, false, cond, not, _&&_}
+use lib.Dec.{ltb}
+use lib.ListN.{getD, set}
+use Rattle.bank.specs.declared.Regs.{Regs}
+use Rattle.bank.specs.declared.Control.{Control}
+use Rattle.bank.specs.declared.Phase.the-variants.{Idle}
+use Rattle.bank.specs.Phases.{idle}
+use Rattle.bank.specs.SetUp.{cleared}
+use Rattle.registers.specs.declared.Register.{Register}
+use Rattle.registers.specs.declared.Register.the-variants.{Version, Id, Scratch, Enable, IrqMask, IrqPending, IrqSource, CmdRoom, CmdrLevel, SdoRoom, SdiLevel, IbiLevel, CmdFifo, CmdrFifo, SdoFifo, SdiFifo, IbiFifo, FifoStatus, Ops, IbiConfig, DevChar, OffloadCmd, OffloadSdo, Unmapped}
+use Rattle.model.specs.View.{bit, bits, weigh, Queue, Cmd, Cmdr, Sdo, Sdi, Ibi, each, of, room, empty, full, last, Tables, View}
+use Rattle.model.specs.Decision.{clear, take, push, only, Effect, unchanged, _withValue_, _withRegs_, _withControl_, _withPhase_, _withTables_, _withQueues_, Decision, does, _⇒_∣_}
+
+-- what a register that stores something stores
+pub data Cell : Type 0 where
+  scratch mask ops ibiConfig devChar : Cell
+  offloadCmd offloadSdo : ℕ → Cell
+
+pub data Row : Type 0 where
+  absent : Row
+  shows : (View → ℕ) → Row  -- read-only
+  holds : Cell → Row
+  pushes takes : Queue → Row  -- "write pushes, read gives 0"; "read takes, write is answer 2"
+  enables acknowledges : Row  -- ENABLE; IRQ_PENDING
+
+-- ── The table ─────────────────────────────────────────────────────────────────────────────────────────────────
+-- the flags of the device at an address: bit 0 attached, bit 1 may interrupt, bit 2 sends a data byte
+abbrev pub device : ℕ → View → ℕ
+device a s = getD (s .tables .flags) a 0
+
+-- "Source bits: 0 CMD level below its watermark; 1 CMDR above; 2 SDO below; 3 SDI above; 4 IBI above"; 5 to 7 are the pending bits.
+-- Those are kept that the mask m has.
+abbrev pub sources : ℕ → View → ℕ
+sources m s =
+    let q = s .queues in
+    let c = s .control in
+    weigh (ltb (q .cmd .level) (q .cmd .mark) && bit 0 m) 1
+    + weigh (ltb (q .cmdr .mark) (q .cmdr .level) && bit 1 m) 2
+    + weigh (ltb (q .sdo .level) (q .sdo .mark) && bit 2 m) 4
+    + weigh (ltb (q .sdi .mark) (q .sdi .level) && bit 3 m) 8
+    + weigh (ltb (q .ibi .mark) (q .ibi .level) && bit 4 m) 16
+    + weigh (c .cmdrpending && bit 5 m) 32
+    + weigh (c .ibipending && bit 6 m) 64
+    + weigh (c .daapending && bit 7 m) 128
+
+-- "bit 2 SDI, bit 1 IBI, bit 0 CMDR empty"
+abbrev pub status : View → ℕ
+status s = weigh (empty (s .queues .cmdr)) 1 + weigh (empty (s .queues .ibi)) 2 + weigh (empty (s .queues .sdi)) 4
+
+abbrev pub row : Register → Row
+row Version = shows (λ s. 0x00000100)
+row Id = shows (λ s. s .regs .id)
+row Scratch = holds scratch
+row Enable = enables
+row IrqMask = holds mask
+row IrqPending = acknowledges
+row IrqSource = shows (sources 0xff)
+row CmdRoom = shows (λ s. room (s .queues .cmd))
+row CmdrLevel = shows (λ s. s .queues .cmdr .level)
+row SdoRoom = shows (λ s. room (s .queues .sdo))
+row SdiLevel = shows (λ s. s .queues .sdi .level)
+row IbiLevel = shows (λ s. s .queues .ibi .level)
+row CmdFifo = pushes Cmd
+row CmdrFifo = takes Cmdr
+row SdoFifo = pushes Sdo
+row SdiFifo = takes Sdi
+row IbiFifo = takes Ibi
+row FifoStatus = shows status
+row Ops = holds ops
+row IbiConfig = holds ibiConfig
+row DevChar = holds devChar
+row (OffloadCmd i) = holds (offloadCmd i)
+row (OffloadSdo i) = holds (offloadSdo i)
+row Unmapped = absent
+
+-- ── Stored fields ─────────────────────────────────────────────────────────────────────────────────────────────
+-- What a read gives. OPS: "bit 7 read-only, 1 when no transfer is open". IBI_CONFIG is write-only: "Reads of write-only registers give
+-- 0." DEV_CHAR: "Reads show the selected address and its flags", at 15:9 and 3:1.
+abbrev pub shown : Cell → View → ℕ
+shown scratch s = s .regs .scratch
+shown mask s = s .regs .mask
+shown ops s = weigh (idle (s .phase)) 128 + s .regs .ops
+shown ibiConfig s = 0
+shown devChar s = s .regs .selected * 2 ^ 9 + device (s .regs .selected) s * 2
+shown (offloadCmd i) s = getD (s .tables .commands) i 0
+shown (offloadSdo i) s = getD (s .tables .payloads) i 0
+
+-- What a write keeps: "Unnamed bits are ignored on write .. where an entry of this map names no bits, all 32 are kept". IRQ_MASK has
+-- 7:0, OPS 6:0, IBI_CONFIG 1:0. DEV_CHAR: "15:9 address .. Every write selects the address".
+abbrev pub storedRegs : Cell → ℕ → Regs → Regs
+storedRegs scratch v g = record { id = g .id; scratch = v; mask = g .mask; ops = g .ops; config = g .config; selected = g .selected }
+storedRegs mask v g = record { id = g .id; scratch = g .scratch; mask = v % 2 ^ 8; ops = g .ops; config = g .config; selected = g .selected }
+storedRegs ops v g = record { id = g .id; scratch = g .scratch; mask = g .mask; ops = v % 2 ^ 7; config = g .config; selected = g .selected }
+storedRegs ibiConfig v g = record { id = g .id; scratch = g .scratch; mask = g .mask; ops = g .ops; config = v % 2 ^ 2; selected = g .selected }
+storedRegs devChar v g = record { id = g .id; scratch = g .scratch; mask = g .mask; ops = g .ops; config = g .config; selected = bits 15 9 v }
+storedRegs (offloadCmd i) v g = g
+storedRegs (offloadSdo i) v g = g
+
+-- "bit 8 write enable, bit 3 sends a data byte, bit 2 may interrupt, bit 1 attached .. with bit 8 set it also stores the three flags"
+abbrev pub storedTables : Cell → ℕ → Tables → Tables
+storedTables scratch v t = t
+storedTables mask v t = t
+storedTables ops v t = t
+storedTables ibiConfig v t = t
+storedTables devChar v t = record { flags = cond (bit 8 v) (set (t .flags) (bits 15 9 v) (bits 3 1 v)) (t .flags); commands = t .commands; payloads = t .payloads }
+storedTables (offloadCmd i) v t = record { flags = t .flags; commands = set (t .commands) i v; payloads = t .payloads }
+storedTables (offloadSdo i) v t = record { flags = t .flags; commands = t .commands; payloads = set (t .payloads) i v }
+
+-- ── Control bits ──────────────────────────────────────────────────────────────────────────────────────────────
+-- other pending bits: 5 receipt, 6 interrupt, 7 address request
+abbrev pub pending : Bool → Bool → Bool → Control → Control
+pending r i a c = record { held = c .held; sync = c .sync; ibisync = c .ibisync; cmdrpending = r; ibipending = i; daapending = a }
+
+-- "A read that empties CMDR clears bit 5, IBI bit 6; an accepted SDO write clears bit 7": where b holds
+abbrev pub clears : Queue → Bool → Control → Control
+clears Cmd b c = c
+clears Cmdr b c = pending (not b && c .cmdrpending) (c .ibipending) (c .daapending) c
+clears Sdo b c = pending (c .cmdrpending) (c .ibipending) (not b && c .daapending) c
+clears Sdi b c = c
+clears Ibi b c = pending (c .cmdrpending) (not b && c .ibipending) (c .daapending) c
+
+-- "a 1 written to bits 5 to 7 clears that pending bit"
+abbrev pub acknowledged : ℕ → Control → Control
+acknowledged v c = pending (not (bit 5 v) && c .cmdrpending) (not (bit 6 v) && c .ibipending) (not (bit 7 v) && c .daapending) c
+
+abbrev pub released : Control → Control
+released c = record { held = false; sync = c .sync; ibisync = c .ibisync; cmdrpending = c .cmdrpending; ibipending = c .ibipending; daapending = c .daapending }
+
+-- "Writing 1 resets queues, transfer, pending bits and syncs and holds them; other registers and the device table stay. Writing 0
+-- then releases; once released it changes nothing."
+unfoldable pub enable : View → Bool → Effect
+enable s true = unchanged s withControl cleared true withPhase Idle withQueues each clear clear clear clear clear
+enable s false = unchanged s withControl released (s .control)
+
+-- ── Reads and writes, by their row ────────────────────────────────────────────────────────────────────────────
+-- "For accesses: 21, 22, 4, 2, 5, 1, 3"; 21 and 22 stand before every call
+abbrev pub read : Row → View → Decision
+read absent s = true ⇒ 4 ∣ does (unchanged s)
+read (shows f) s = does (unchanged s withValue f s)
+read (holds c) s = does (unchanged s withValue shown c s)
+read (pushes q) s = does (unchanged s)
+read (takes q) s =
+    let v = of q (s .queues) in
+    empty v ⇒ 3 ∣ does (unchanged s withValue v .first withControl clears q (last v) (s .control) withQueues only q (take 1))
+read enables s = does (unchanged s withValue weigh (s .control .held) 1)
+read acknowledges s = does (unchanged s withValue sources (s .regs .mask) s)  -- "reads source AND mask"
+
+abbrev pub write : Row → View → ℕ → Decision
+write absent s v = true ⇒ 4 ∣ does (unchanged s)
+write (shows f) s v = true ⇒ 2 ∣ does (unchanged s)
+write (holds c) s v = does (unchanged s withRegs storedRegs c v (s .regs) withTables storedTables c v (s .tables))
+write (pushes q) s v =
+    s .control .held ⇒ 5 ∣ full (of q (s .queues)) ⇒ 1 ∣ does (unchanged s withControl clears q true (s .control) withQueues only q (push v))
+write (takes q) s v = true ⇒ 2 ∣ does (unchanged s)
+write enables s v = does (enable s (bit 0 v))
+write acknowledges s v = does (unchanged s withControl acknowledged v (s .control))

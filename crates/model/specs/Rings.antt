@@ -1,0 +1,107 @@
+-- The ring engine: a bank and its lent store. Promises cite this one.
+use Prim.Native.Nat.{ℕ, _+_}
+use mathlib.Core.Bool.{not}
+use mathlib.Core.List.{List}
+use lib.Dec.{eqb}
+use lib.ListN.{length, getD, set}
+use Rattle.ring.specs.declared.Ring.{Ring}
+use Rattle.ring.specs.Ring.{placeOf, pushedOf, takenOf, clearedOf, entries}
+use Rattle.bank.specs.declared.Queues.{Queues}
+use Rattle.bank.specs.declared.Bank.{Bank}
+use Rattle.bank.specs.SetUp.{total}
+use Rattle.bank.specs.Formed.{wellFormed}
+use Rattle.model.specs.View.{Five, each, QueueView, View}
+use Rattle.model.specs.Decision.{QueueOp, keep, clear, take, push, push2, Effect, Decision, _⇒_∣_}
+use Rattle.model.specs.Engine.{Engine}
+
+pub record Controller : Type 0 where
+  pub bank : Bank
+  pub store : List ℕ
+
+-- ── Areas: "in one lent store of 32-bit words, end to end: CMD, CMDR, SDO, SDI, IBI" ──────────────────────────
+pub record Area : Type 0 where
+  pub ring : Ring
+  pub base : ℕ
+
+abbrev pub area : Ring → ℕ → Area
+area r b = record { ring = r; base = b }
+
+abbrev pub cmdrAt : Queues → ℕ
+cmdrAt q = q .cmd .cap .0
+
+abbrev pub sdoAt : Queues → ℕ
+sdoAt q = q .cmd .cap .0 + q .cmdr .cap .0
+
+abbrev pub sdiAt : Queues → ℕ
+sdiAt q = q .cmd .cap .0 + q .cmdr .cap .0 + q .sdo .cap .0
+
+abbrev pub ibiAt : Queues → ℕ
+ibiAt q = q .cmd .cap .0 + q .cmdr .cap .0 + q .sdo .cap .0 + q .sdi .cap .0
+
+abbrev pub areas : Queues → Five Area
+areas q = each (area (q .cmd) 0) (area (q .cmdr) (cmdrAt q)) (area (q .sdo) (sdoAt q)) (area (q .sdi) (sdiAt q)) (area (q .ibi) (ibiAt q))
+
+-- the words of a queue, first word first
+abbrev pub wordsIn : Area → List ℕ → List ℕ
+wordsIn a st = entries (a .ring) (a .base) st
+
+-- ── What it shows ─────────────────────────────────────────────────────────────────────────────────────────────
+abbrev pub viewArea : Area → List ℕ → QueueView
+viewArea a st =
+    record { cap = a .ring .cap .0; mark = a .ring .mark .0; level = a .ring .level .0; first = getD (wordsIn a st) 0 0; second = getD (wordsIn a st) 1 0 }
+
+abbrev pub viewRings : Controller → View
+viewRings l =
+    let b = l .bank in
+    let a = areas (b .state .queues) in
+    let st = l .store in
+    record {
+      regs = b .state .regs;
+      control = b .state .control;
+      phase = b .state .phase;
+      tables = record { flags = b .flags; commands = b .commands; payloads = b .payloads };
+      queues = each (viewArea (a .cmd) st) (viewArea (a .cmdr) st) (viewArea (a .sdo) st) (viewArea (a .sdi) st) (viewArea (a .ibi) st);
+    }
+
+-- ── What an effect does ───────────────────────────────────────────────────────────────────────────────────────
+unfoldable pub onRing : QueueOp → Ring → Ring
+onRing keep r = r
+onRing clear r = clearedOf r
+onRing (take k) r = takenOf r k
+onRing (push w) r = pushedOf r
+onRing (push2 v w) r = pushedOf (pushedOf r)
+
+-- "a push writes one store word, at (head + level) modulo capacity within its queue; a take writes none; a reset .. writes none"
+unfoldable pub onStore : QueueOp → Area → List ℕ → List ℕ
+onStore keep a st = st
+onStore clear a st = st
+onStore (take k) a st = st
+onStore (push w) a st = set st (a .base + placeOf (a .ring) (a .ring .level .0)) w
+onStore (push2 v w) a st = set (set st (a .base + placeOf (a .ring) (a .ring .level .0)) v) (a .base + placeOf (a .ring) (a .ring .level .0 + 1)) w
+
+abbrev pub onRings : Five QueueOp → Queues → Queues
+onRings o q = record { cmd = onRing (o .cmd) (q .cmd); cmdr = onRing (o .cmdr) (q .cmdr); sdo = onRing (o .sdo) (q .sdo); sdi = onRing (o .sdi) (q .sdi); ibi = onRing (o .ibi) (q .ibi) }
+
+abbrev pub onStores : Five QueueOp → Five Area → List ℕ → List ℕ
+onStores o a st = onStore (o .ibi) (a .ibi) (onStore (o .sdi) (a .sdi) (onStore (o .sdo) (a .sdo) (onStore (o .cmdr) (a .cmdr) (onStore (o .cmd) (a .cmd) st))))
+
+abbrev pub settleRings : Controller → Effect → Controller
+settleRings l e =
+    let q = l .bank .state .queues in
+    record {
+      bank =
+          record {
+            state = record { queues = onRings (e .ops) q; regs = e .regs; control = e .control; phase = e .phase };
+            flags = e .tables .flags;
+            commands = e .tables .commands;
+            payloads = e .tables .payloads;
+          };
+      store = onStores (e .ops) (areas q) (l .store);
+    }
+
+-- "21 goes first, then 22"
+unfoldable pub guardRings : Controller → Decision → Decision
+guardRings l d = not (wellFormed (l .bank)) ⇒ 21 ∣ not (eqb (length (l .store)) (total (l .bank .state .queues))) ⇒ 22 ∣ d
+
+abbrev pub rings : Engine Controller
+rings = record { view = viewRings; guard = guardRings; settle = settleRings }

@@ -1,0 +1,77 @@
+-- What a call sees of a controller. It sees nothing else: not where the queues lie, and not their other words.
+use Prim.Native.Nat.{ℕ, suc, _-_, _%_, _/_, _^_}
+use mathlib.Core.Bool.{Bool, cond}
+use mathlib.Core.List.{List}
+use lib.Dec.{leb, eqb}
+use Rattle.bank.specs.declared.Regs.{Regs}
+use Rattle.bank.specs.declared.Control.{Control}
+use Rattle.bank.specs.declared.Phase.{Phase}
+
+-- bit k of v
+abbrev pub bit : ℕ → ℕ → Bool
+bit k v = eqb (v / 2 ^ k % 2) 1
+
+-- bits hi down to lo of v
+abbrev pub bits : ℕ → ℕ → ℕ → ℕ
+bits hi lo v = v / 2 ^ lo % 2 ^ (suc hi - lo)
+
+-- w where b holds, else 0
+abbrev pub weigh : Bool → ℕ → ℕ
+weigh b w = cond b w 0
+
+-- ── Five of a kind ────────────────────────────────────────────────────────────────────────────────────────────
+pub data Queue : Type 0 where
+  Cmd Cmdr Sdo Sdi Ibi : Queue
+
+-- one for each queue, in 01's order
+pub record Five (A : Type 0) : Type 0 where
+  pub cmd : A
+  pub cmdr : A
+  pub sdo : A
+  pub sdi : A
+  pub ibi : A
+
+abbrev pub each : {A : Type 0} → A → A → A → A → A → Five A
+each a b c d e = record { cmd = a; cmdr = b; sdo = c; sdi = d; ibi = e }
+
+abbrev pub of : {A : Type 0} → Queue → Five A → A
+of Cmd f = f .cmd
+of Cmdr f = f .cmdr
+of Sdo f = f .sdo
+of Sdi f = f .sdi
+of Ibi f = f .ibi
+
+-- ── The view ──────────────────────────────────────────────────────────────────────────────────────────────────
+-- of a queue; a word that is not there is 0
+pub record QueueView : Type 0 where
+  pub cap : ℕ
+  pub mark : ℕ
+  pub level : ℕ
+  pub first : ℕ
+  pub second : ℕ
+
+abbrev pub room : QueueView → ℕ
+room q = q .cap - q .level
+
+abbrev pub empty : QueueView → Bool
+empty q = eqb (q .level) 0
+
+abbrev pub full : QueueView → Bool
+full q = leb (q .cap) (q .level)
+
+-- a take of one word leaves the queue empty
+abbrev pub last : QueueView → Bool
+last q = leb (q .level) 1
+
+-- the flags of the 128 devices, the offload commands and the offload data words
+pub record Tables : Type 0 where
+  pub flags : List ℕ
+  pub commands : List ℕ
+  pub payloads : List ℕ
+
+pub record View : Type 0 where
+  pub regs : Regs
+  pub control : Control
+  pub phase : Phase
+  pub tables : Tables
+  pub queues : Five QueueView

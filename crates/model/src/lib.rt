@@ -1,0 +1,27 @@
+// The calls and the answer, in the types that code and definitions share. specs/ has every call as a definition, and
+// demand 3; proofs/ has their laws. No function is here.
+
+// Two register accesses and seven bus events.
+pub enum Call {
+    // Offset.
+    Read(u16),
+    // Offset, value.
+    Write(u16, u32),
+    Start,
+    Send,
+    // Byte.
+    Receive(u8),
+    // Code.
+    Finish(u8),
+    // Address, byte.
+    Interrupt(u8, u8),
+    // Two words.
+    Request(u32, u32),
+    Take,
+}
+
+// 01: "Each call returns a value and a number".
+pub struct Answer {
+    pub value: u32,
+    pub number: u32,
+}

@@ -1,0 +1,86 @@
+// Counts in two units, and a ring of 32-bit words in an area of a lent store: a layer, no interface. The calls above
+// it test what it asks of its caller.
+ghost use mathlib.Core.Path.{_≡_};
+ghost use Prim.Native.Nat.{_+_, _<_, _≤_};
+ghost use lib.ListN.{length, getD, set};
+ghost use Rattle.ring.specs.Units.{wordsFor};
+ghost use Rattle.ring.specs.Ring.{Valid, placeOf, pushedOf, takenOf, clearedOf, entries};
+
+// A number of payload bytes: 01, "Payload lengths count bytes".
+pub struct Bytes(pub u32);
+
+// A number of queue words: 01, "queue levels count words".
+pub struct Words(pub u32);
+
+// The words that hold `b` bytes: the quotient by four, rounded up.
+pub fn words_for(b: Bytes) -> Words
+    ensures { λ r. ⌜ r ≡ wordsFor b ⌝ }
+{
+    Words(b.0 / 4 + (b.0 % 4 + 3) / 4)
+}
+
+// A queue: its capacity and watermark, the place of its first entry within its area, and how many entries it has.
+pub struct Ring {
+    pub cap: Words,
+    pub mark: Words,
+    pub head: u32,
+    pub level: Words,
+}
+
+// The place `i` after the head: one comparison and one subtraction, no division.
+fn place(r: Ring, i: u32) -> u32
+    requires { ⌜ (Valid r) × (i ≤ r .cap .0) ⌝ }
+    ensures { λ p. ⌜ (p ≡ placeOf r i) × (p < r .cap .0) ⌝ }
+{
+    let at = r.head + i;
+    let cap = r.cap.0;
+    if at < cap { at } else { at - cap }
+}
+
+// The ring with one entry more, behind the last.
+pub fn push(r: Ring, base: usize, store: &mut [u32], w: u32) -> Ring
+    requires { ⌜ (Valid r) × (r .level .0 < r .cap .0) × (base + r .cap .0 ≤ length (now store)) ⌝ }
+    ensures { λ p. ⌜ (p ≡ pushedOf r) × (now (store .exit) ≡ set (now (store .entry)) (base + placeOf r (r .level .0)) w) ⌝ }
+{
+    let at = base + place(r, r.level.0) as usize;
+    store[at] = w;
+    let mut next = r;
+    let level = r.level.0 + 1;
+    next.level.0 = level;
+    next
+}
+
+// The entry that lies `i` after the first, or 0 where there are fewer.
+pub fn look(r: Ring, base: usize, store: &[u32], i: u32) -> u32
+    requires { ⌜ (Valid r) × (base + r .cap .0 ≤ length (now store)) ⌝ }
+    ensures { λ w. ⌜ w ≡ getD (entries r base (now (store .entry))) i 0 ⌝ }
+{
+    if i < r.level.0 {
+        let at = base + place(r, i) as usize;
+        store[at]
+    } else {
+        0
+    }
+}
+
+// The ring without its first `n` entries.
+pub fn take(r: Ring, n: u32) -> Ring
+    requires { ⌜ (Valid r) × (n ≤ r .level .0) ⌝ }
+    ensures { λ p. ⌜ p ≡ takenOf r n ⌝ }
+{
+    let mut next = r;
+    next.head = place(r, n);
+    let level = r.level.0 - n;
+    next.level.0 = level;
+    next
+}
+
+// The ring with no entry, its head at the first place.
+pub fn clear(r: Ring) -> Ring
+    ensures { λ p. ⌜ p ≡ clearedOf r ⌝ }
+{
+    let mut next = r;
+    next.head = 0;
+    next.level.0 = 0;
+    next
+}

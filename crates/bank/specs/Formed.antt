@@ -1,4 +1,5 @@
--- When a bank is well formed: one definition for each clause of 01's sentence "Well formed: ..".
+-- When a bank is well formed: 01's sentence "Well formed: ..", clause by clause. What the types of the code already say (an ID below
+-- 256, 128 flags, 32 bits) is not asked again.
 use Prim.Native.Nat.{ℕ, _-_, _*_, _%_, _^_}
 use mathlib.Core.Bool.{Bool, true, not, _&&_, _||_}
 use mathlib.Core.List.{List, [], _∷_}
@@ -13,15 +14,14 @@ use Rattle.bank.specs.declared.Bank.{Bank}
 use Rattle.bank.specs.Phases.{idle, transfer, limit, partBytes}
 use Rattle.bank.specs.SetUp.{sizeOk}
 
--- "set-up numbers in range; each head below and each level at most its capacity". The ID is in range by its type.
+-- "set-up numbers in range; each head below and each level at most its capacity"
 abbrev pub ringOk : ℕ → Ring → Bool
 ringOk least r = sizeOk least (r .cap .0) (r .mark .0) && ltb (r .head) (r .cap .0) && leb (r .level .0) (r .cap .0)
 
 unfoldable pub queuesOk : Queues → Bool
 queuesOk q = ringOk 2 (q .cmd) && ringOk 1 (q .cmdr) && ringOk 1 (q .sdo) && ringOk 2 (q .sdi) && ringOk 1 (q .ibi)
 
--- "every stored field within its bits": OPS 6:0, IBI_CONFIG 1:0, an address of 7 bits, three flags a device. The types of the others
--- are as wide as their fields.
+-- "every stored field within its bits": OPS 6:0, IBI_CONFIG 1:0, an address of 7 bits, three flags a device
 unfoldable pub regsOk : Regs → Bool
 regsOk g = ltb (g .ops) 128 && ltb (g .config) 4 && ltb (g .selected) 128
 

@@ -57,7 +57,8 @@ broadcast Private = false
 broadcast Direct = false
 broadcast Broadcast = true
 
--- the device of "a private transfer or direct CCC" was not attached at the start
+-- the device of "a private transfer or direct CCC" was not attached at the start. (Where no transfer is open this says nothing: 7 is
+-- tested before it.)
 abbrev pub unattached : Phase → Bool
 unattached p = not (assigning p) && not (broadcast (transfer p .kind)) && not (transfer p .attached)
 

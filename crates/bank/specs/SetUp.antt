@@ -44,12 +44,12 @@ zeros = record { cmd = 0; cmdr = 0; sdo = 0; sdi = 0; ibi = 0 }
 
 -- "23 with a bank whose every number is 0"
 abbrev pub refused : SetUp
-refused = record { bank = bankOf zeros zeros false 0; number = 23 }
+refused = record { bank = bankOf zeros zeros false 0; answer = record { value = 0; number = 23 } }
 
 -- "Set-up gives 0 with a bank held in reset"; "ID is 0 to 255"
 unfoldable pub setUp : Sizes → Sizes → ℕ → SetUp
-setUp c m id = cond (leb id 255 && sizesOk c m) (record { bank = bankOf c m true id; number = 0 }) refused
+setUp c m id = cond (leb id 255 && sizesOk c m) (record { bank = bankOf c m true id; answer = record { value = 0; number = 0 } }) refused
 
--- "store length is .. the sum of the capacities"
+-- "the sum of the capacities": the length of the store that the queues need
 abbrev pub total : Queues → ℕ
 total q = q .cmd .cap .0 + q .cmdr .cap .0 + q .sdo .cap .0 + q .sdi .cap .0 + q .ibi .cap .0

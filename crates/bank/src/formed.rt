@@ -10,6 +10,7 @@ use crate::Regs;
 use crate::Transfer;
 use crate::fresh;
 use crate::phases;
+use ring::Bytes;
 use ring::Ring;
 
 fn ring_ok(least: u32, r: Ring) -> bool
@@ -61,11 +62,11 @@ fn unit(parts: u32) -> u64
     }
 }
 
-fn transfer_ok(t: Transfer, most: u32, parts: u32) -> bool
-    requires { ⌜ parts < 4 ⌝ }
-    ensures { λ b. ⌜ b ≡ transferOk t most parts ⌝ }
+fn transfer_ok(t: Transfer, most: Bytes, parts: Bytes) -> bool
+    requires { ⌜ parts .0 < 4 ⌝ }
+    ensures { λ b. ⌜ b ≡ transferOk t (most .0) (parts .0) ⌝ }
 {
-    (t.length.0 < 4096) & (t.moved.0 <= most) & (t.part as u64 % unit(parts) == 0)
+    (t.length.0 < 4096) & (t.moved.0 <= most.0) & (t.part as u64 % unit(parts.0) == 0)
 }
 
 fn phase_ok(p: Phase) -> bool

@@ -2,6 +2,7 @@
 ghost use mathlib.Core.Path.{_≡_};
 ghost use Prim.Native.Nat.{_+_};
 ghost use Rattle.bank.specs.SetUp.{sizeOk, sizesOk, ringOf, queuesOf, cleared, bankOf, refused, setUp, total};
+use crate::Answer;
 use crate::Bank;
 use crate::Control;
 use crate::Phase;
@@ -23,7 +24,7 @@ pub struct Sizes {
 // What set-up gives.
 pub struct SetUp {
     pub bank: Bank,
-    pub number: u32,
+    pub answer: Answer,
 }
 
 // Whether a capacity and its watermark are in range.
@@ -118,10 +119,11 @@ fn refused_set_up() -> SetUp
         ibi: 0,
     };
     let b = fresh_bank(none, none, false, 0);
-    SetUp {
-        bank: b,
+    let a = Answer {
+        value: 0,
         number: 23,
-    }
+    };
+    SetUp { bank: b, answer: a }
 }
 
 // A bank held in reset, with number 0; where a number is out of range, a bank of zeros, with number 23.
@@ -133,7 +135,11 @@ pub fn set_up(caps: Sizes, marks: Sizes, id: u32) -> SetUp
     }
     if sizes_ok(caps, marks) {
         let b = fresh_bank(caps, marks, true, id as u8);
-        return SetUp { bank: b, number: 0 };
+        let a = Answer {
+            value: 0,
+            number: 0,
+        };
+        return SetUp { bank: b, answer: a };
     }
     refused_set_up()
 }

@@ -86,6 +86,12 @@ pub struct Bank {
     pub payloads: [u32; 16],
 }
 
+// 01: "Each call returns a value and a number; the value is 0 where none is named."
+pub struct Answer {
+    pub value: u32,
+    pub number: u32,
+}
+
 // One of two numbers, by a test.
 pub fn select(test: bool, yes: u32, no: u32) -> u32
     ensures { λ r. ⌜ r ≡ cond test yes no ⌝ }

@@ -91,22 +91,21 @@ pub fn is_unattached(p: Phase) -> bool
 }
 
 // The most bytes that may move.
-pub fn limit_of(p: Phase) -> u32
-    ensures { λ n. ⌜ n ≡ limit p ⌝ }
+pub fn limit_of(p: Phase) -> Bytes
+    ensures { λ n. ⌜ n .0 ≡ limit p ⌝ }
 {
     let t = transfer_of(p);
-    crate::select(
-        (UNREQUESTED <= stage_of(p)) | is_unattached(p),
-        0,
-        t.length.0,
-    )
+    let none = (UNREQUESTED <= stage_of(p)) | is_unattached(p);
+    let most = crate::select(none, 0, t.length.0);
+    Bytes(most)
 }
 
 // The bytes that the part word holds.
-pub fn part_bytes(p: Phase) -> u32
-    ensures { λ n. ⌜ (n ≡ partBytes p) × (n < 4) ⌝ }
+pub fn part_bytes(p: Phase) -> Bytes
+    ensures { λ n. ⌜ (n .0 ≡ partBytes p) × (n .0 < 4) ⌝ }
 {
     let t = transfer_of(p);
     let over = t.moved.0 % 4;
-    crate::select(stage_of(p) == READING, over, (4 - over) % 4)
+    let held = crate::select(stage_of(p) == READING, over, (4 - over) % 4);
+    Bytes(held)
 }

@@ -25,8 +25,9 @@ whole q = cond (empty q) false (cond (eqb (q .level) 1) (not (twoWords (q .first
 abbrev pub command : QueueView → Command
 command q = cond (twoWords (q .first)) (Ccc (q .first) (q .second)) (Single (q .first))
 
-abbrev pub count : QueueView → ℕ
-count q = cond (twoWords (q .first)) 2 1
+-- its words
+abbrev pub wordCount : QueueView → ℕ
+wordCount q = cond (twoWords (q .first)) 2 1
 
 -- "For a private transfer or direct CCC it notes whether the device is attached now."
 abbrev pub attached : View → Command → Bool
@@ -37,8 +38,12 @@ unfoldable pub start : View → Decision
 start s =
     let q = s .queues in
     let c = command (q .cmd) in
-    s .control .held ⇒ 5 ∣ not (idle (s .phase)) ⇒ 6 ∣ bit 0 (s .regs .ops) ⇒ 8 ∣ not (whole (q .cmd)) ⇒ 9 ∣ isEntdaa c && not (empty (q .sdo)) ⇒ 15
-    ∣ does (unchanged s withValue firstWord c withPhase begun c (attached s c) withQueues each (take (count (q .cmd))) keep keep keep keep)
+    s .control .held ⇒ 5
+    ∣ not (idle (s .phase)) ⇒ 6
+    ∣ bit 0 (s .regs .ops) ⇒ 8
+    ∣ not (whole (q .cmd)) ⇒ 9
+    ∣ isEntdaa c && not (empty (q .sdo)) ⇒ 15
+    ∣ does (unchanged s withValue firstWord c withPhase begun c (attached s c) withQueues each (take (wordCount (q .cmd))) keep keep keep keep)
 
 -- ── Bytes ─────────────────────────────────────────────────────────────────────────────────────────────────────
 -- one byte more has moved, and the part word is w
@@ -63,7 +68,12 @@ unfoldable pub send : View → Decision
 send s =
     let t = transfer (s .phase) in
     let w = cond (fresh t) (s .queues .sdo .first) (t .part) in
-    s .control .held ⇒ 5 ∣ idle (s .phase) ⇒ 7 ∣ unattached (s .phase) ⇒ 20 ∣ not (writing (s .phase)) ⇒ 10 ∣ reached t ⇒ 11 ∣ fresh t && empty (s .queues .sdo) ⇒ 12
+    s .control .held ⇒ 5
+    ∣ idle (s .phase) ⇒ 7
+    ∣ unattached (s .phase) ⇒ 20
+    ∣ not (writing (s .phase)) ⇒ 10
+    ∣ reached t ⇒ 11
+    ∣ fresh t && empty (s .queues .sdo) ⇒ 12
     ∣ does (unchanged s withValue w / 2 ^ 24 % 256 withPhase Writing (advanced t (w % 2 ^ 24 * 2 ^ 8)) withQueues each keep keep (cond (fresh t) (take 1) keep) keep keep)
 
 -- Receive a byte: "5, 7, 20, 10 (a write or ENTDAA), 11, 13. A word goes to SDI with its fourth byte; 13 only when that push has no room."
@@ -71,7 +81,12 @@ unfoldable pub receive : View → ℕ → Decision
 receive s byte =
     let t = transfer (s .phase) in
     let w = t .part + byte * 2 ^ (24 - 8 * (t .moved .0 % 4)) in
-    s .control .held ⇒ 5 ∣ idle (s .phase) ⇒ 7 ∣ unattached (s .phase) ⇒ 20 ∣ not (reading (s .phase)) ⇒ 10 ∣ reached t ⇒ 11 ∣ fills t && full (s .queues .sdi) ⇒ 13
+    s .control .held ⇒ 5
+    ∣ idle (s .phase) ⇒ 7
+    ∣ unattached (s .phase) ⇒ 20
+    ∣ not (reading (s .phase)) ⇒ 10
+    ∣ reached t ⇒ 11
+    ∣ fills t && full (s .queues .sdi) ⇒ 13
     ∣ does (unchanged s withPhase Reading (advanced t (cond (fills t) 0 w)) withQueues each keep keep keep (cond (fills t) (push w) keep) keep)
 
 -- ── Finish with a code: "5, 7, 14, 13" ────────────────────────────────────────────────────────────────────────
@@ -84,19 +99,20 @@ endsEntdaa p code = (eqb code 0 && not (requested p)) || (eqb code 4 && unreques
 abbrev pub endsOther : Phase → ℕ → Bool
 endsOther p code =
     let t = transfer p in
-    let none = eqb (t .moved .0) 0 in
-    let all = eqb (t .moved .0) (t .length .0) in
+    let nothing = eqb (t .moved .0) 0 in
+    let everything = eqb (t .moved .0) (t .length .0) in
     let ccc = not (private (t .kind)) in
-    (eqb code 4 && none && (ccc || t .header))
-    || (eqb code 6 && none && not (broadcast (t .kind)))
-    || (eqb code 0 && (all || (reading p && not ccc)))
-    || (eqb code 1 && reading p && ccc && not all)
+    (eqb code 4 && nothing && (ccc || t .header))
+    || (eqb code 6 && nothing && not (broadcast (t .kind)))
+    || (eqb code 0 && (everything || (reading p && not ccc)))
+    || (eqb code 1 && reading p && ccc && not everything)
 
 -- "device unattached, code 8 only"; "All else is 14."
 unfoldable pub allowed : Phase → ℕ → Bool
 allowed p code = cond (unattached p) (eqb code 8) (cond (assigning p) (endsEntdaa p code) (endsOther p code))
 
--- "A part-filled word is padded with 0 and pushed": more words are begun than are full. The part word is padded as it stands.
+-- "A part-filled word is padded with 0 and pushed": the bytes moved need more words than they fill. The part word is padded as it
+-- stands.
 unfoldable pub padded : Phase → Bool
 padded p = reading p && ltb (transfer p .moved .0 / 4) (wordsFor (transfer p .moved) .0)
 
@@ -110,7 +126,11 @@ finish s code =
     let t = transfer (s .phase) in
     let q = s .queues in
     let r = receiptWord code (t .moved .0) (s .control .sync) in
-    ltb 15 code ⇒ 18 ∣ s .control .held ⇒ 5 ∣ idle (s .phase) ⇒ 7 ∣ not (allowed (s .phase) code) ⇒ 14 ∣ full (q .cmdr) || (padded (s .phase) && full (q .sdi)) ⇒ 13
+    ltb 15 code ⇒ 18
+    ∣ s .control .held ⇒ 5
+    ∣ idle (s .phase) ⇒ 7
+    ∣ not (allowed (s .phase) code) ⇒ 14
+    ∣ full (q .cmdr) || (padded (s .phase) && full (q .sdi)) ⇒ 13
     ∣ does (unchanged s withValue r withControl receipted (s .control) withPhase Idle withQueues each keep (push r) keep (cond (padded (s .phase)) (push (t .part)) keep) keep)
 
 -- ── Interrupt request: "5, 6, 16 (listen 0), 17 (enable 0, or not attached, or may not interrupt), 13" ────────
@@ -123,7 +143,12 @@ unfoldable pub interrupt : View → ℕ → ℕ → Decision
 interrupt s a byte =
     let f = device a s in
     let e = entryWord a (cond (bit 2 f) byte 0) (s .control .ibisync) in
-    ltb 127 a ⇒ 18 ∣ s .control .held ⇒ 5 ∣ not (idle (s .phase)) ⇒ 6 ∣ not (bit 1 (s .regs .config)) ⇒ 16 ∣ not (bit 0 (s .regs .config) && bit 0 f && bit 1 f) ⇒ 17 ∣ full (s .queues .ibi) ⇒ 13
+    ltb 127 a ⇒ 18
+    ∣ s .control .held ⇒ 5
+    ∣ not (idle (s .phase)) ⇒ 6
+    ∣ not (bit 1 (s .regs .config)) ⇒ 16
+    ∣ not (bit 0 (s .regs .config) && bit 0 f && bit 1 f) ⇒ 17
+    ∣ full (s .queues .ibi) ⇒ 13
     ∣ does (unchanged s withValue e withControl interrupted (s .control) withQueues each keep keep keep keep (push e))
 
 -- ── Address request: "5, 7, 10 (not ENTDAA, or one is open), 13 (SDI room below 2). Pushes both." ─────────────
@@ -133,7 +158,10 @@ asked b c = pending (c .cmdrpending) (c .ibipending) (c .daapending || b) c
 
 unfoldable pub request : View → ℕ → ℕ → Decision
 request s v w =
-    s .control .held ⇒ 5 ∣ idle (s .phase) ⇒ 7 ∣ not (assigning (s .phase)) || requested (s .phase) ⇒ 10 ∣ ltb (room (s .queues .sdi)) 2 ⇒ 13
+    s .control .held ⇒ 5
+    ∣ idle (s .phase) ⇒ 7
+    ∣ not (assigning (s .phase)) || requested (s .phase) ⇒ 10
+    ∣ ltb (room (s .queues .sdi)) 2 ⇒ 13
     ∣ does (unchanged s withControl asked (empty (s .queues .sdo)) (s .control) withPhase Requested (transfer (s .phase)) withQueues each keep keep keep (push2 v w) keep)
 
 -- ── Address take: "5, 7, 10 (not ENTDAA, or none open), 12" ───────────────────────────────────────────────────
@@ -143,7 +171,10 @@ takeAddress s =
     let q = s .queues .sdo in
     let t = transfer (s .phase) in
     let odd = eqb (ones (q .first / 2 ^ 24) % 2) 1 in
-    s .control .held ⇒ 5 ∣ idle (s .phase) ⇒ 7 ∣ not (requested (s .phase)) ⇒ 10 ∣ empty q ⇒ 12
+    s .control .held ⇒ 5
+    ∣ idle (s .phase) ⇒ 7
+    ∣ not (requested (s .phase)) ⇒ 10
+    ∣ empty q ⇒ 12
     ∣ does (unchanged s withValue q .first / 2 ^ 25 withNumber cond odd 0 19 withControl asked (not odd && last q) (s .control) withPhase cond odd (Answered t) (Requested t) withQueues each keep keep (take 1) keep keep)
 
 -- ── Any call ──────────────────────────────────────────────────────────────────────────────────────────────────

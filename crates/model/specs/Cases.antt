@@ -1,5 +1,6 @@
 -- The worked session of 01, and the cases that it marks P, in one table: calls on the session's bank, then calls with their answers.
 use Prim.Native.Nat.{ℕ, zero, suc}
+use mathlib.Core.Path.{_≡_}
 use mathlib.Core.Bool.{Bool, true, _&&_}
 use mathlib.Core.List.{List, [], _∷_}
 use lib.Dec.{eqb}
@@ -56,7 +57,7 @@ worked =
     [] then Write 0x040 0 ⇝ 0 · 0 ∷ Write 0x180 0x1102 ⇝ 0 · 0 ∷ Write 0xdc 0xa5c30000 ⇝ 0 · 0 ∷ Write 0xd4 0x210 ⇝ 0 · 0 ∷ Start ⇝ 0x210 · 0
     ∷ Send ⇝ 0xa5 · 0 ∷ Send ⇝ 0xc3 · 0 ∷ Finish 0 ⇝ 0x200 · 0 ∷ Read 0xd8 ⇝ 0x200 · 0 ∷ Read 0xd8 ⇝ 0 · 3 ∷ []
 
--- "a third byte at length 2 is 11", "the session's F line"
+-- "a third byte at length 2 is 11"
 unfoldable pub thirdByte : Case
 thirdByte = release ∷ device8 ∷ Write 0xdc 0xa5c30000 ∷ Write 0xd4 0x210 ∷ Start ∷ Send ∷ Send ∷ [] then Send ⇝ 0 · 11 ∷ Finish 0 ⇝ 0x200 · 0 ∷ []
 
@@ -92,7 +93,11 @@ interrupt8 = release ∷ device8 ∷ Write 0x140 3 ∷ [] then Interrupt 8 0x5a 
 unfoldable pub receipt257 : Case
 receipt257 =
     release ∷ device8 ∷ rounds 255
-    then Write 0xd4 0x10 ⇝ 0 · 0 ∷ Start ⇝ 0x10 · 0 ∷ Finish 0 ⇝ 0xff · 0 ∷ Write 0xd4 0x10 ⇝ 0 · 0 ∷ Start ⇝ 0x10 · 0 ∷ Finish 0 ⇝ 0 · 0 ∷ []
+    then Write 0xd4 0x10 ⇝ 0 · 0 ∷ Start ⇝ 0x10 · 0 ∷ Finish 0 ⇝ 0xff · 0 ∷ Write 0xdc 0 ⇝ 0 · 0 ∷ Write 0xd4 0x110 ⇝ 0 · 0 ∷ Start ⇝ 0x110 · 0 ∷ Send ⇝ 0 · 0 ∷ Finish 0 ⇝ 0x100 · 0 ∷ []
 
+-- 01 marks P also "the session's F line", which the worked session has
 unfoldable pub table : List Case
 table = worked ∷ thirdByte ∷ released ∷ fifthWrite ∷ cccAlone ∷ addresses ∷ fiveBytes ∷ interrupt8 ∷ receipt257 ∷ []
+
+unfoldable pub Hold : Type 0
+Hold = allHold table ≡ true

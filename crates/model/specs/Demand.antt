@@ -12,7 +12,7 @@ use Rattle.bank.specs.Phases.{idle}
 use Rattle.bank.specs.SetUp.{setUp}
 use Rattle.model.specs.declared.Call.{Call}
 use Rattle.model.specs.declared.Call.the-variants.{Read, Write, Start, Send, Receive, Finish, Interrupt, Request, Take}
-use Rattle.model.specs.declared.Answer.{Answer}
+use Rattle.bank.specs.declared.Answer.{Answer}
 use Rattle.model.specs.View.{bit}
 use Rattle.model.specs.Commands.{Command, Single, Ccc, twoWords, firstWord, wordsOf, isEntdaa, isRead, isWrite, lengthOf, receiptWord}
 use Rattle.model.specs.Engine.{Engine, step, final}
@@ -63,7 +63,7 @@ pub record Written : Type 0 where
   pub roomSeen : Bool  -- "after a read of the room above 0, made since the release, with no other command word written between"
   pub promised : Bool  -- the last read of the room, less the words written since, left a place for it
 
-pub record Words : Type 0 where
+pub record CmdLog : Type 0 where
   pub written : List Written  -- in order
   pub roomSeen : Bool  -- the room was read above 0, and no word was written since
   pub credit : ℕ  -- the room last read, less the words written since
@@ -81,7 +81,7 @@ pub record Run : Type 0 where
   pub ending : Option Ending
 
 pub record Tally : Type 0 where
-  pub words : Words
+  pub words : CmdLog
   pub past : List Run  -- runs no longer open; a start while one is open leaves it here without an ending
   pub now : Option Run  -- the run that is open
   pub receipts : List ℕ  -- the receipts read
@@ -93,7 +93,7 @@ abbrev pub opt : {A : Type 0} → Option A → List A
 opt none = []
 opt (some a) = a ∷ []
 
-abbrev pub countWord : Words → WordEvent → Words
+abbrev pub countWord : CmdLog → WordEvent → CmdLog
 countWord w (wrote ok v) =
     record {
       written = snoc (w .written) (record { word = v; taken = ok; roomSeen = w .roomSeen; promised = ltb 0 (w .credit) });
@@ -129,7 +129,7 @@ abbrev pub nothing : Tally
 nothing = record { words = record { written = []; roomSeen = false; credit = 0 }; past = []; now = none; receipts = [] }
 
 -- none: held in reset, and nothing counts. "A reset is a write to ENABLE answered 0 with bit 0 set; a release is the first one with
--- bit 0 clear since set-up or a reset": a later one is none.
+-- bit 0 clear since set-up or a reset": a later one is no release.
 abbrev pub follow : Option Tally → Event → Option Tally
 follow none (enabled true) = none
 follow none (enabled false) = some nothing
@@ -144,7 +144,7 @@ follow (some t) (bus e) = some (count t e)
 follow (some t) (gotReceipt v) = some (record { words = t .words; past = t .past; now = t .now; receipts = snoc (t .receipts) v })
 follow (some t) other = some t
 
--- ── Words, commands, runs ─────────────────────────────────────────────────────────────────────────────────────
+-- ── CmdLog, commands, runs ─────────────────────────────────────────────────────────────────────────────────────
 unfoldable pub allWords : List Written → List ℕ
 allWords [] = []
 allWords (w ∷ ws) = w .word ∷ allWords ws
@@ -188,7 +188,7 @@ abbrev pub moved : Run → ℕ
 moved r = r .sends + r .receives
 
 -- "Its receipt is the value of the finish that finished it, with that finish's code as error", its length the bytes moved, "its sync the
--- number of earlier receipts modulo 256"
+-- number of earlier receipts modulo 256": the i runs before it, which have all ended (clause 3)
 abbrev pub ReceiptOf : ℕ → ℕ → Option Ending → Type 0
 ReceiptOf i m none = Unit {0}
 ReceiptOf i m (some e) = (e .code < 16) × (e .receipt ≡ receiptWord (e .code) m (i % 256))
@@ -237,8 +237,9 @@ pub record Demand3 (t : Tally) (transferOpen : Bool) (cmd cmdr : List ℕ) : Typ
   pub fitting : Each (λ i r c. Fitting r c) 0 (runs t) (commands t)
   -- 7: "The receipts read, then those still queued, are exactly these."
   pub receipts : t .receipts ++ cmdr ≡ receiptsOf (runs t)
-  -- 8: "Every command word written after a read of the room above 0 .. was taken"; and after a read of room r the next r words are
+  -- 8: "Every command word written after a read of the room above 0 .. was taken"
   pub room : Every (λ w. w .roomSeen ≡ true → w .taken ≡ true) (t .words .written)
+  -- stronger than asked: after a read of room r the next r words were taken
   pub credit : Every (λ w. w .promised ≡ true → w .taken ≡ true) (t .words .written)
   -- 9: "Where each is written so, no command is missing."
   pub complete : Every (λ w. w .roomSeen ≡ true) (t .words .written) → taken t ≡ allWords (t .words .written)
@@ -252,7 +253,7 @@ module _ {B : Type 0} (g : Engine B) where
 -- "The fresh bank comes from a set-up answered 0; its store may hold anything." The list ends released: its tally is some t.
 unfoldable pub Demand : Type 0
 Demand =
-    (caps marks : Sizes) (id : ℕ) (store : List ℕ) (cs : List Call) (t : Tally) → setUp caps marks id .number ≡ 0
+    (caps marks : Sizes) (id : ℕ) (store : List ℕ) (cs : List Call) (t : Tally) → setUp caps marks id .answer .number ≡ 0
     → let b : Controller = record { bank = setUp caps marks id .bank; store = store } in
     tally rings none b cs ≡ some t
     → let l = final rings b cs in

@@ -3,7 +3,7 @@ use Prim.Native.Nat.{ℕ}
 use mathlib.Core.List.{List, [], _∷_}
 use mathlib.Core.Option.{Option, none, some}
 use Rattle.model.specs.declared.Call.{Call}
-use Rattle.model.specs.declared.Answer.{Answer}
+use Rattle.bank.specs.declared.Answer.{Answer}
 use Rattle.model.specs.View.{View}
 use Rattle.model.specs.Decision.{Effect, Decision, first, effect}
 use Rattle.model.specs.Calls.{decide}

@@ -10,7 +10,7 @@ use Rattle.bank.specs.Formed.{wellFormed}
 use Rattle.registers.specs.Map.{registerAt}
 use Rattle.model.specs.declared.Call.{Call}
 use Rattle.model.specs.declared.Call.the-variants.{Read, Write, Start, Send, Receive, Finish, Interrupt, Request, Take}
-use Rattle.model.specs.View.{Queue, Cmd, Cmdr, Sdo, Sdi, Ibi, each, of}
+use Rattle.model.specs.View.{bit, Queue, Cmd, Cmdr, Sdo, Sdi, Ibi, each, of}
 use Rattle.model.specs.Registers.{Row, absent, shows, holds, pushes, takes, enables, acknowledges, row}
 use Rattle.model.specs.Engine.{Step, step, final, answers}
 use Rattle.model.specs.Rings.{Controller, areas, wordsIn, viewRings, rings}
@@ -36,20 +36,29 @@ pub record Agreement (caps marks : Sizes) (id : ℕ) (store : List ℕ) (cs : Li
 
 unfoldable pub EnginesAgree : Type 0
 EnginesAgree =
-    (caps marks : Sizes) (id : ℕ) (store : List ℕ) (cs : List Call) → setUp caps marks id .number ≡ 0 → length store ≡ total (setUp caps marks id .bank .state .queues) → Agreement caps marks id store cs
+    (caps marks : Sizes) (id : ℕ) (store : List ℕ) (cs : List Call) → setUp caps marks id .answer .number ≡ 0 → length store ≡ total (setUp caps marks id .bank .state .queues) → Agreement caps marks id store cs
 
--- With a store of any other length every call is 22, and changes nothing.
+-- With a bank that is not well formed every call is 21; else with a store of any other length every call is 22. Nothing changes.
+abbrev pub refused : Controller → ℕ → Step Controller
+refused l n = record { answer = record { value = 0; number = n }; next = l }
+
+unfoldable pub IllFormed : Type 0
+IllFormed = (l : Controller) (c : Call) → wellFormed (l .bank) ≡ false → step rings l c ≡ refused l 21
+
 unfoldable pub WrongLength : Type 0
 WrongLength =
     (l : Controller) (c : Call) → wellFormed (l .bank) ≡ true → (length (l .store) ≡ total (l .bank .state .queues) → ⊥)
-    → step rings l c ≡ record { answer = record { value = 0; number = 22 }; next = l }
+    → step rings l c ≡ refused l 22
 
 -- Any number but 0 and 19 leaves bank and store as they were, and the value is 0.
 unfoldable pub RefusalChangesNothing : Type 0
 RefusalChangesNothing =
     (l : Controller) (c : Call) → let r = step rings l c in (r .answer .number ≡ 0 → ⊥) → (r .answer .number ≡ 19 → ⊥) → (r .next ≡ l) × (r .answer .value ≡ 0)
 
--- A well-formed bank stays so over every call, and a store keeps its length.
+-- A set-up answered 0 gives a well-formed bank; it stays so over every call, and a store keeps its length.
+unfoldable pub SetUpWellFormed : Type 0
+SetUpWellFormed = (caps marks : Sizes) (id : ℕ) → setUp caps marks id .answer .number ≡ 0 → wellFormed (setUp caps marks id .bank) ≡ true
+
 unfoldable pub StaysWellFormed : Type 0
 StaysWellFormed = (l : Controller) (c : Call) → wellFormed (l .bank) ≡ true → wellFormed (step rings l c .next .bank) ≡ true
 
@@ -73,18 +82,19 @@ readNames (takes q) k = same q k
 readNames enables k = false
 readNames acknowledges k = false
 
-abbrev pub writeNames : Row → Queue → Bool
-writeNames absent k = false
-writeNames (shows f) k = false
-writeNames (holds c) k = false
-writeNames (pushes q) k = same q k
-writeNames (takes q) k = false
-writeNames enables k = true
-writeNames acknowledges k = false
+-- a write of 1 to ENABLE clears all queues
+abbrev pub writeNames : Row → ℕ → Queue → Bool
+writeNames absent v k = false
+writeNames (shows f) v k = false
+writeNames (holds c) v k = false
+writeNames (pushes q) v k = same q k
+writeNames (takes q) v k = false
+writeNames enables v k = bit 0 v
+writeNames acknowledges v k = false
 
 abbrev pub names : Call → Queue → Bool
 names (Read o) k = readNames (row (registerAt o)) k
-names (Write o v) k = writeNames (row (registerAt o)) k
+names (Write o v) k = writeNames (row (registerAt o)) v k
 names Start k = same Cmd k
 names Send k = same Sdo k
 names (Receive byte) k = same Sdi k

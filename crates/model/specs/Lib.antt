@@ -9,3 +9,4 @@ pub mod Lists
 pub mod Laws
 pub mod Demand
 pub mod Cases
+pub mod Tallies

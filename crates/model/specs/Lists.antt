@@ -1,5 +1,5 @@
--- The list engine: a queue is the list of its words, first word first. It decides as the ring engine does. Proofs use it, and no promise
--- rests on it.
+-- The list engine: a queue is the list of its words, first word first. It decides as the ring engine does, but has
+-- no 21 and 22. Proofs use it, and no promise rests on it.
 use Prim.Native.Nat.{ℕ}
 use mathlib.Core.List.{List, [], _∷_, _++_}
 use lib.ListN.{length, getD, drop}

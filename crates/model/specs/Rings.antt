@@ -50,17 +50,18 @@ abbrev pub viewArea : Area → List ℕ → QueueView
 viewArea a st =
     record { cap = a .ring .cap .0; mark = a .ring .mark .0; level = a .ring .level .0; first = getD (wordsIn a st) 0 0; second = getD (wordsIn a st) 1 0 }
 
+abbrev pub viewQueues : Queues → List ℕ → Five QueueView
+viewQueues q st = let a = areas q in each (viewArea (a .cmd) st) (viewArea (a .cmdr) st) (viewArea (a .sdo) st) (viewArea (a .sdi) st) (viewArea (a .ibi) st)
+
 abbrev pub viewRings : Controller → View
 viewRings l =
     let b = l .bank in
-    let a = areas (b .state .queues) in
-    let st = l .store in
     record {
       regs = b .state .regs;
       control = b .state .control;
       phase = b .state .phase;
       tables = record { flags = b .flags; commands = b .commands; payloads = b .payloads };
-      queues = each (viewArea (a .cmd) st) (viewArea (a .cmdr) st) (viewArea (a .sdo) st) (viewArea (a .sdi) st) (viewArea (a .ibi) st);
+      queues = viewQueues (b .state .queues) (l .store);
     }
 
 -- ── What an effect does ───────────────────────────────────────────────────────────────────────────────────────

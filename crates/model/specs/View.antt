@@ -1,4 +1,5 @@
--- What a call sees of a controller. It sees nothing else: not where the queues lie, and not their other words.
+-- What a call decides by. It sees nothing else: not where the queues lie, and not their other words. (The tests 21 and 22 belong to
+-- the engine.)
 use Prim.Native.Nat.{ℕ, suc, _-_, _%_, _/_, _^_}
 use mathlib.Core.Bool.{Bool, cond}
 use mathlib.Core.List.{List}

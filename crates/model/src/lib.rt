@@ -1,5 +1,5 @@
-// The calls and the answer, in the types that code and definitions share. specs/ has every call as a definition, and
-// demand 3; proofs/ has their laws. No function is here.
+// The nine calls, as code and definitions name them. specs/ has each as a definition, and demand 3; proofs/ has their
+// laws. No function is here.
 
 // Two register accesses and seven bus events.
 pub enum Call {
@@ -18,10 +18,4 @@ pub enum Call {
     // Two words.
     Request(u32, u32),
     Take,
-}
-
-// 01: "Each call returns a value and a number".
-pub struct Answer {
-    pub value: u32,
-    pub number: u32,
 }

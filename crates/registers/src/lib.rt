@@ -2,7 +2,7 @@
 ghost use mathlib.Core.Path.{_≡_};
 ghost use Rattle.registers.specs.Map.{registerAt};
 
-// The registers of 001, by its names. An offload register has its place in its memory, 0 to 15.
+// The registers of 001. An offload register has its place in its memory, 0 to 15.
 pub enum Register {
     Version,
     Id,

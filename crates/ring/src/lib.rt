@@ -64,13 +64,13 @@ pub fn look(r: Ring, base: usize, store: &[u32], i: u32) -> u32
 }
 
 // The ring without its first `n` entries.
-pub fn take(r: Ring, n: u32) -> Ring
-    requires { ⌜ (Valid r) × (n ≤ r .level .0) ⌝ }
-    ensures { λ p. ⌜ p ≡ takenOf r n ⌝ }
+pub fn take(r: Ring, n: Words) -> Ring
+    requires { ⌜ (Valid r) × (n .0 ≤ r .level .0) ⌝ }
+    ensures { λ p. ⌜ p ≡ takenOf r (n .0) ⌝ }
 {
     let mut next = r;
-    next.head = place(r, n);
-    let level = r.level.0 - n;
+    next.head = place(r, n.0);
+    let level = r.level.0 - n.0;
     next.level.0 = level;
     next
 }

@@ -1,3 +1,4 @@
+-- `registers::register_at` meets its contract.
 use borrow.Author.Needs.{needs}
 use native.Mathlib.Omega.{arith}
 use mathlib.Core.Path.{sym, ap}
@@ -5,153 +6,121 @@ use Rattle.registers.specs.Map.{registerAt, named, find}
 use Rattle.registers.proofs.Lookup as laws
 use Rattle.registers.proofs.register_at.Statement.{statement}
 use Rattle.registers.proofs.register_at.Tie as tie
-use Rattle.registers.proofs.register_at.Reads as reads
-use Rattle.registers.proofs.register_at.Lts as lts
 
--- src/lib.rt:61:38
 cast-t9 : tie.Need-cast-t9
 cast-t9 c = laws.index-fits _ 704 (c .before .before .before .before .fits .offset)
 
--- src/lib.rt:68:35
 cast-t15 : tie.Need-cast-t15
 cast-t15 c = laws.index-fits _ 768 (c .before .before .before .before .before .before .fits .offset)
 
--- src/lib.rt:34:1
 returns : tie.Need-returns
 unfolding named find
 returns c = sym (ap registerAt (c .match .keys1))
 
--- src/lib.rt:34:1
 returns-2 : tie.Need-returns-2
 unfolding named find
 returns-2 c = sym (ap registerAt (c .match .keys2))
 
--- src/lib.rt:34:1
 returns-3 : tie.Need-returns-3
 unfolding named find
 returns-3 c = sym (ap registerAt (c .match .keys3))
 
--- src/lib.rt:34:1
 returns-4 : tie.Need-returns-4
 unfolding named find
 returns-4 c = sym (ap registerAt (c .match .keys4))
 
--- src/lib.rt:34:1
 returns-5 : tie.Need-returns-5
 unfolding named find
 returns-5 c = sym (ap registerAt (c .match .keys5))
 
--- src/lib.rt:34:1
 returns-6 : tie.Need-returns-6
 unfolding named find
 returns-6 c = sym (ap registerAt (c .match .keys6))
 
--- src/lib.rt:34:1
 returns-7 : tie.Need-returns-7
 unfolding named find
 returns-7 c = sym (ap registerAt (c .match .keys7))
 
--- src/lib.rt:34:1
 returns-8 : tie.Need-returns-8
 unfolding named find
 returns-8 c = sym (ap registerAt (c .match .keys8))
 
--- src/lib.rt:34:1
 returns-9 : tie.Need-returns-9
 unfolding named find
 returns-9 c = sym (ap registerAt (c .match .keys9))
 
--- src/lib.rt:34:1
 returns-10 : tie.Need-returns-10
 unfolding named find
 returns-10 c = sym (ap registerAt (c .match .keys10))
 
--- src/lib.rt:34:1
 returns-11 : tie.Need-returns-11
 unfolding named find
 returns-11 c = sym (ap registerAt (c .match .keys11))
 
--- src/lib.rt:34:1
 returns-12 : tie.Need-returns-12
 unfolding named find
 returns-12 c = sym (ap registerAt (c .match .keys12))
 
--- src/lib.rt:34:1
 returns-13 : tie.Need-returns-13
 unfolding named find
 returns-13 c = sym (ap registerAt (c .match .keys13))
 
--- src/lib.rt:34:1
 returns-14 : tie.Need-returns-14
 unfolding named find
 returns-14 c = sym (ap registerAt (c .match .keys14))
 
--- src/lib.rt:34:1
 returns-15 : tie.Need-returns-15
 unfolding named find
 returns-15 c = sym (ap registerAt (c .match .keys15))
 
--- src/lib.rt:34:1
 returns-16 : tie.Need-returns-16
 unfolding named find
 returns-16 c = sym (ap registerAt (c .match .keys16))
 
--- src/lib.rt:34:1
 returns-17 : tie.Need-returns-17
 unfolding named find
 returns-17 c = sym (ap registerAt (c .match .keys17))
 
--- src/lib.rt:34:1
 returns-18 : tie.Need-returns-18
 unfolding named find
 returns-18 c = sym (ap registerAt (c .match .keys18))
 
--- src/lib.rt:34:1
 returns-19 : tie.Need-returns-19
 unfolding named find
 returns-19 c = sym (ap registerAt (c .match .keys19))
 
--- src/lib.rt:34:1
 returns-20 : tie.Need-returns-20
 unfolding named find
 returns-20 c = sym (ap registerAt (c .match .keys20))
 
--- src/lib.rt:34:1
 returns-21 : tie.Need-returns-21
 unfolding named find
 returns-21 c = sym (ap registerAt (c .match .keys21))
 
--- src/lib.rt:34:1
 returns-22 : tie.Need-returns-22
 unfolding named find
 returns-22 c = laws.command-at _ (c .before .before .before .match .rest) (c .before .before .if1 .left) (c .before .if2 .taken) (c .if3 .taken)
 
--- src/lib.rt:34:1
 returns-23 : tie.Need-returns-23
 unfolding named find
 returns-23 c = laws.nothing-odd-command _ (c .before .before .before .match .rest) (c .before .before .if1 .left) (c .before .if2 .taken) (c .if3 .left)
 
--- src/lib.rt:34:1
 returns-24 : tie.Need-returns-24
 unfolding named find
 returns-24 c = laws.word-at _ (c .before .before .before .before .before .match .rest) (c .before .before .if4 .left) (c .before .if5 .taken) (c .if6 .taken)
 
--- src/lib.rt:34:1
 returns-25 : tie.Need-returns-25
 unfolding named find
 returns-25 c = laws.nothing-odd-word _ (c .before .before .before .before .before .match .rest) (c .before .before .if4 .left) (c .before .if5 .taken) (c .if6 .left)
 
--- src/lib.rt:34:1
 returns-26 : tie.Need-returns-26
 unfolding named find
 returns-26 c = laws.nothing-below _ (c .before .match .rest) (c .if1 .taken)
 
--- src/lib.rt:34:1
 returns-27 : tie.Need-returns-27
 unfolding named find
 returns-27 c = laws.nothing-between _ (c .before .before .before .match .rest) (c .before .if2 .left) (c .if4 .taken)
 
--- src/lib.rt:34:1
 returns-28 : tie.Need-returns-28
 unfolding named find
 returns-28 c = laws.nothing-above _ (c .before .before .before .before .match .rest) (c .if5 .left)

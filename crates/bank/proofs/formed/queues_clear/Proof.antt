@@ -1,32 +1,24 @@
+-- `bank::formed::queues_clear` meets its contract.
 use Rattle.bank.specs.Formed.{queuesClear}
 use borrow.Author.Needs.{needs}
 use Rattle.bank.proofs.formed.queues_clear.Statement.{statement}
 use Rattle.bank.proofs.formed.queues_clear.Tie as tie
-use Rattle.bank.proofs.formed.queues_clear.Reads as reads
-use Rattle.bank.proofs.formed.queues_clear.Lts as lts
-use Rattle.bank.proofs.formed.ring_clear.Reads as ring-clear-reads
 
--- src/formed.rt:87:5
 ring-clear-requires : tie.Need-ring-clear-requires
 ring-clear-requires c κs = search needs
 
--- src/formed.rt:88:11
 ring-clear-requires-2 : tie.Need-ring-clear-requires-2
 ring-clear-requires-2 c κs = search needs
 
--- src/formed.rt:89:11
 ring-clear-requires-3 : tie.Need-ring-clear-requires-3
 ring-clear-requires-3 c κs = search needs
 
--- src/formed.rt:90:11
 ring-clear-requires-4 : tie.Need-ring-clear-requires-4
 ring-clear-requires-4 c κs = search needs
 
--- src/formed.rt:91:11
 ring-clear-requires-5 : tie.Need-ring-clear-requires-5
 ring-clear-requires-5 c κs = search needs
 
--- src/formed.rt:84:1
 returns : tie.Need-returns
 unfolding queuesClear
 returns c = cc

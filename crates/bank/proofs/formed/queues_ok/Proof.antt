@@ -1,32 +1,24 @@
+-- `bank::formed::queues_ok` meets its contract.
 use Rattle.bank.specs.Formed.{queuesOk}
 use borrow.Author.Needs.{needs}
 use Rattle.bank.proofs.formed.queues_ok.Statement.{statement}
 use Rattle.bank.proofs.formed.queues_ok.Tie as tie
-use Rattle.bank.proofs.formed.queues_ok.Reads as reads
-use Rattle.bank.proofs.formed.queues_ok.Lts as lts
-use Rattle.bank.proofs.formed.ring_ok.Reads as ring-ok-reads
 
--- src/formed.rt:24:5
 ring-ok-requires : tie.Need-ring-ok-requires
 ring-ok-requires c κs = search needs
 
--- src/formed.rt:25:11
 ring-ok-requires-2 : tie.Need-ring-ok-requires-2
 ring-ok-requires-2 c κs = search needs
 
--- src/formed.rt:26:11
 ring-ok-requires-3 : tie.Need-ring-ok-requires-3
 ring-ok-requires-3 c κs = search needs
 
--- src/formed.rt:27:11
 ring-ok-requires-4 : tie.Need-ring-ok-requires-4
 ring-ok-requires-4 c κs = search needs
 
--- src/formed.rt:28:11
 ring-ok-requires-5 : tie.Need-ring-ok-requires-5
 ring-ok-requires-5 c κs = search needs
 
--- src/formed.rt:21:1
 returns : tie.Need-returns
 unfolding queuesOk
 returns c = cc

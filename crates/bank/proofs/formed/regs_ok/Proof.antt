@@ -1,11 +1,9 @@
+-- `bank::formed::regs_ok` meets its contract.
 use mathlib.Core.Path.{refl}
 use Rattle.bank.specs.Formed.{regsOk}
 use Rattle.bank.proofs.formed.regs_ok.Statement.{statement}
 use Rattle.bank.proofs.formed.regs_ok.Tie as tie
-use Rattle.bank.proofs.formed.regs_ok.Reads as reads
-use Rattle.bank.proofs.formed.regs_ok.Lts as lts
 
--- src/formed.rt:31:1
 returns : tie.Need-returns
 unfolding regsOk
 returns c = refl

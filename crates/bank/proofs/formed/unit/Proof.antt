@@ -1,24 +1,19 @@
+-- `bank::formed::unit` meets its contract.
 use native.Mathlib.Omega.{arith}
 use mathlib.Core.Path.{_≡_, sym, ap}
 use Prim.Native.Nat.{ℕ, _-_, _*_, _^_}
 use Rattle.bank.proofs.formed.unit.Statement.{statement}
 use Rattle.bank.proofs.formed.unit.Tie as tie
-use Rattle.bank.proofs.formed.unit.Reads as reads
-use Rattle.bank.proofs.formed.unit.Lts as lts
 
--- src/formed.rt:52:1
 returns : tie.Need-returns
 returns c = (sym (ap (λ (n : ℕ). 2 ^ (32 - 8 * n)) (c .match .keys1)), omega arith)
 
--- src/formed.rt:52:1
 returns-2 : tie.Need-returns-2
 returns-2 c = (sym (ap (λ (n : ℕ). 2 ^ (32 - 8 * n)) (c .match .keys2)), omega arith)
 
--- src/formed.rt:52:1
 returns-3 : tie.Need-returns-3
 returns-3 c = (sym (ap (λ (n : ℕ). 2 ^ (32 - 8 * n)) (c .match .keys3)), omega arith)
 
--- src/formed.rt:52:1
 returns-4 : tie.Need-returns-4
 returns-4 c = (let e : c .before .args .parts ≡ 3 = omega arith in sym (ap (λ (n : ℕ). 2 ^ (32 - 8 * n)) e), omega arith)
 

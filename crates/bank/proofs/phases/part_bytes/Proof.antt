@@ -1,3 +1,4 @@
+-- `bank::phases::part_bytes` meets its contract.
 use Prim.Native.Nat.{ℕ, _<_}
 use mathlib.Core.Bool.{Bool, true, false, cond}
 use native.Mathlib.Omega.{arith}
@@ -5,33 +6,23 @@ use lib.Dec.{eqb}
 use borrow.Author.Needs.{needs}
 use Rattle.bank.proofs.phases.part_bytes.Statement.{statement}
 use Rattle.bank.proofs.phases.part_bytes.Tie as tie
-use Rattle.bank.proofs.phases.part_bytes.Reads as reads
-use Rattle.bank.proofs.phases.part_bytes.Lts as lts
-use Rattle.bank.proofs.phases.stage_of.Reads as stage-of-reads
-use Rattle.bank.proofs.phases.transfer_of.Reads as transfer-of-reads
-use Rattle.bank.proofs.select.Reads as select-reads
 
 below : (b : Bool) (m n : ℕ) → m < 4 → n < 4 → cond b m n < 4
 below true m n h k = h
 below false m n h k = k
 
--- src/phases.rt:101:9
 transfer-of-requires : tie.Need-transfer-of-requires
 transfer-of-requires c κs = search needs
 
--- src/phases.rt:103:19
 stage-of-requires : tie.Need-stage-of-requires
 stage-of-requires c κs = search needs
 
--- src/phases.rt:103:50
 sub-select : tie.Need-sub-select
 sub-select c = search needs
 
--- src/phases.rt:103:5
 select-requires : tie.Need-select-requires
 select-requires c κs = search needs
 
--- src/phases.rt:98:1
 returns : tie.Need-returns
 returns c = (cc, rw (c .select .ensures) (below (eqb (c .before .stage-of .result) 2) _ _ (omega arith) (omega arith)))
 

@@ -1,0 +1,397 @@
+-- A call keeps a bank well formed, part by part: rings, registers, flags, phase, and what holds in reset.
+use Prim.Native.Nat.{ℕ, zero, suc, _+_, _-_, _*_, _/_, _%_, _^_, _≤_, _<_}
+use native.Mathlib.Omega.{arith}
+use native.Mathlib.Numerals.{add-one}
+use mathlib.Core.Path.{_≡_, refl, ap, sym, _∙_, subst}
+use mathlib.Core.Bool.{Bool, true, false, cond, not, _&&_, _||_, true≢false, false≢true}
+use mathlib.Core.List.{List, [], _∷_}
+use lib.Dec.{leb, ltb, eqb, leb·zero}
+use lib.ListN.{set}
+use lib.Count.{ones}
+use borrow.Author.Tests.{leb-false, eqb-true, not-false, lt-ltb, le-leb, eq-eqb}
+use Rattle.ring.specs.declared.Ring.{Ring}
+use Rattle.bank.specs.declared.Queues.{Queues}
+use Rattle.bank.specs.declared.Regs.{Regs}
+use Rattle.bank.specs.declared.Control.{Control}
+use Rattle.bank.specs.declared.Transfer.{Transfer}
+use Rattle.bank.specs.declared.Phase.{Phase}
+use Rattle.bank.specs.declared.Phase.the-variants.{Idle, Writing, Reading, Unrequested, Requested, Answered}
+use Rattle.bank.specs.Phases.{idle, writing, reading, assigning, requested, transfer, unattached, limit, partBytes}
+use Rattle.bank.specs.SetUp.{sizeOk}
+use Rattle.bank.specs.Formed.{ringOk, queuesOk, regsOk, flagsOk, phaseOk, ringClear, queuesClear, controlClear, resetOk}
+use Rattle.bank.proofs.Bools.{or-left, and-true, true-and, three, five, all-three, all-five}
+use Rattle.bank.proofs.Laws.{ring-valid, rings-of, rings-are}
+use Rattle.registers.specs.Map.{registerAt}
+use Rattle.model.specs.declared.Call.{Call}
+use Rattle.model.specs.declared.Call.the-variants.{Read, Write, Start, Send, Receive, Finish, Interrupt, Request, Take}
+use Rattle.model.specs.View.{bit, bits, Queue, Cmd, Cmdr, Sdo, Sdi, Ibi, Five, of, Tables, View}
+use Rattle.model.specs.Decision.{QueueOp, effect}
+use Rattle.model.specs.Commands.{Command, firstWord, isEntdaa, isRead, lengthOf, opened, begun}
+use Rattle.model.specs.Registers.{Cell, scratch, mask, ops, ibiConfig, devChar, offloadCmd, offloadSdo, Row, absent, shows, holds, pushes, takes, enables, acknowledges, row, storedRegs, storedTables, pending, clears, enable, read, write}
+use Rattle.model.specs.Calls.{command, attached, advanced, fresh, fills, decide, start, send, receive, finish, interrupt, request, takeAddress}
+use Rattle.model.specs.Rings.{Controller, viewQueues, viewRings, onRing, onRings}
+use Rattle.model.proofs.Tests.{Passed}
+use Rattle.model.proofs.Room.{Fits, AllFit}
+use Rattle.model.proofs.Rings.{cap-same, mark-same, valid-op}
+use Rattle.model.proofs.Phases.{writing-is, reading-is, requested-assigns}
+
+-- ── Rings ─────────────────────────────────────────────────────────────────────────────────────────────────────
+ring-kept : (least : ℕ) (r : Ring) (o : QueueOp) → 1 ≤ least → Fits o (r .cap .0) (r .level .0) → ringOk least r ≡ true → ringOk least (onRing o r) ≡ true
+ring-kept least r o n f h =
+    let g = valid-op o r (ring-valid least r n h) f in
+    let z = three (sizeOk least (r .cap .0) (r .mark .0)) (ltb (r .head) (r .cap .0)) (leb (r .level .0) (r .cap .0)) h in
+    let r′ = onRing o r in
+    let y : sizeOk least (r′ .cap .0) (r′ .mark .0) ≡ true = rw (cap-same o r, mark-same o r) (z .0) in
+    all-three (sizeOk least (r′ .cap .0) (r′ .mark .0)) (ltb (r′ .head) (r′ .cap .0)) (leb (r′ .level .0) (r′ .cap .0)) y (lt-ltb (r′ .head) (r′ .cap .0) (g .head-below)) (le-leb (r′ .level .0) (r′ .cap .0) (g .level-most))
+
+pub queues-kept : (q : Queues) (st : List ℕ) (o : Five QueueOp) → AllFit o (viewQueues q st) → queuesOk q ≡ true → queuesOk (onRings o q) ≡ true
+queues-kept q st o f h =
+    let z = rings-of q h in
+    rings-are (onRings o q)
+    (record {
+      cmd = ring-kept 2 (q .cmd) (o .cmd) (omega arith) (f Cmd) (z .cmd);
+      cmdr = ring-kept 1 (q .cmdr) (o .cmdr) (omega arith) (f Cmdr) (z .cmdr);
+      sdo = ring-kept 1 (q .sdo) (o .sdo) (omega arith) (f Sdo) (z .sdo);
+      sdi = ring-kept 2 (q .sdi) (o .sdi) (omega arith) (f Sdi) (z .sdi);
+      ibi = ring-kept 1 (q .ibi) (o .ibi) (omega arith) (f Ibi) (z .ibi);
+    })
+
+-- ── What a row leaves alone ───────────────────────────────────────────────────────────────────────────────────
+pub record Untouched (s : View) (regs : Regs) (tables : Tables) (phase : Phase) : Type 0 where
+  pub regsSame : regs ≡ s .regs
+  pub tablesSame : tables ≡ s .tables
+  pub phaseSame : phase ≡ s .phase
+
+pub read-untouched : (s : View) (x : Row) → (let e = effect (read x s) in Untouched s (e .regs) (e .tables) (e .phase))
+read-untouched s absent = record { regsSame = refl; tablesSame = refl; phaseSame = refl }
+read-untouched s (shows f) = record { regsSame = refl; tablesSame = refl; phaseSame = refl }
+read-untouched s (holds c) = record { regsSame = refl; tablesSame = refl; phaseSame = refl }
+read-untouched s (pushes q) = record { regsSame = refl; tablesSame = refl; phaseSame = refl }
+read-untouched s (takes q) = record { regsSame = refl; tablesSame = refl; phaseSame = refl }
+read-untouched s enables = record { regsSame = refl; tablesSame = refl; phaseSame = refl }
+read-untouched s acknowledges = record { regsSame = refl; tablesSame = refl; phaseSame = refl }
+
+-- ── Registers and flags ───────────────────────────────────────────────────────────────────────────────────────
+regs-ok : (g : Regs) → ltb (g .ops) 128 ≡ true → ltb (g .config) 4 ≡ true → ltb (g .selected) 128 ≡ true → regsOk g ≡ true
+unfolding regsOk
+regs-ok g a b c = all-three (ltb (g .ops) 128) (ltb (g .config) 4) (ltb (g .selected) 128) a b c
+
+regs-of : (g : Regs) → regsOk g ≡ true → (ltb (g .ops) 128 ≡ true) × (ltb (g .config) 4 ≡ true) × (ltb (g .selected) 128 ≡ true)
+unfolding regsOk
+regs-of g h = three (ltb (g .ops) 128) (ltb (g .config) 4) (ltb (g .selected) 128) h
+
+stored-regs : (c : Cell) (v : ℕ) (g : Regs) → regsOk g ≡ true → regsOk (storedRegs c v g) ≡ true
+stored-regs scratch v g h = let z = regs-of g h in regs-ok _ (z .0) (z .1) (z .2)
+stored-regs mask v g h = let z = regs-of g h in regs-ok _ (z .0) (z .1) (z .2)
+stored-regs ops v g h = let z = regs-of g h in regs-ok _ (lt-ltb (v % 128) 128 (omega arith)) (z .1) (z .2)
+stored-regs ibiConfig v g h = let z = regs-of g h in regs-ok _ (z .0) (lt-ltb (v % 4) 4 (omega arith)) (z .2)
+stored-regs devChar v g h = let z = regs-of g h in regs-ok _ (z .0) (z .1) (lt-ltb (v / 512 % 128) 128 (omega arith))
+stored-regs (offloadCmd i) v g h = h
+stored-regs (offloadSdo i) v g h = h
+
+flags-set : (t : List ℕ) (i v : ℕ) → ltb v 8 ≡ true → flagsOk t ≡ true → flagsOk (set t i v) ≡ true
+unfolding flagsOk
+flags-set [] i v f h = h
+flags-set (x ∷ t) zero v f h = true-and (ltb v 8) (flagsOk t) f (and-true (ltb x 8) (flagsOk t) h .1)
+flags-set (x ∷ t) (suc i) v f h =
+    let z = and-true (ltb x 8) (flagsOk t) h in
+    true-and (ltb x 8) (flagsOk (set t i v)) (z .0) (flags-set t i v f (z .1))
+
+flags-if : (b : Bool) (t : List ℕ) (i v : ℕ) → v < 8 → flagsOk t ≡ true → flagsOk (cond b (set t i v) t) ≡ true
+flags-if true t i v k h = flags-set t i v (lt-ltb v 8 k) h
+flags-if false t i v k h = h
+
+stored-flags : (c : Cell) (v : ℕ) (t : Tables) → flagsOk (t .flags) ≡ true → flagsOk (storedTables c v t .flags) ≡ true
+stored-flags scratch v t h = h
+stored-flags mask v t h = h
+stored-flags ops v t h = h
+stored-flags ibiConfig v t h = h
+stored-flags devChar v t h = flags-if (bit 8 v) (t .flags) (bits 15 9 v) (bits 3 1 v) (let z : v / 2 % 8 < 8 = omega arith in z) h
+stored-flags (offloadCmd i) v t h = h
+stored-flags (offloadSdo i) v t h = h
+
+-- a reset leaves both
+abbrev RegsFlags : Regs → List ℕ → Type 0
+RegsFlags g t = (regsOk g ≡ true) × (flagsOk t ≡ true)
+
+enable-kept : (s : View) (b : Bool) → RegsFlags (s .regs) (s .tables .flags) → RegsFlags (enable s b .regs) (enable s b .tables .flags)
+unfolding enable
+enable-kept s true h = h
+enable-kept s false h = h
+
+write-kept : (s : View) (x : Row) (v : ℕ) → RegsFlags (s .regs) (s .tables .flags) → (let e = effect (write x s v) in RegsFlags (e .regs) (e .tables .flags))
+write-kept s absent v h = h
+write-kept s (shows f) v h = h
+write-kept s (holds c) v h = (stored-regs c v (s .regs) (h .0), stored-flags c v (s .tables) (h .1))
+write-kept s (pushes q) v h = h
+write-kept s (takes q) v h = h
+write-kept s enables v h = enable-kept s (bit 0 v) h
+write-kept s acknowledges v h = h
+
+read-kept : (s : View) (x : Row) → RegsFlags (s .regs) (s .tables .flags) → (let e = effect (read x s) in RegsFlags (e .regs) (e .tables .flags))
+read-kept s x h = let u = read-untouched s x in rw (u .regsSame, u .tablesSame) h
+
+pub regs-flags-kept : (s : View) (c : Call) → RegsFlags (s .regs) (s .tables .flags) → (let e = effect (decide s c) in RegsFlags (e .regs) (e .tables .flags))
+unfolding start send receive finish interrupt request takeAddress
+regs-flags-kept s (Read o) h = read-kept s (row (registerAt o)) h
+regs-flags-kept s (Write o v) h = write-kept s (row (registerAt o)) v h
+regs-flags-kept s Start h = h
+regs-flags-kept s Send h = h
+regs-flags-kept s (Receive b) h = h
+regs-flags-kept s (Finish code) h = h
+regs-flags-kept s (Interrupt a b) h = h
+regs-flags-kept s (Request v w) h = h
+regs-flags-kept s Take h = h
+
+-- ── Phase ─────────────────────────────────────────────────────────────────────────────────────────────────────
+-- its three tests
+pub record PhaseOk (p : Phase) : Type 0 where
+  pub short : ltb (transfer p .length .0) 4096 ≡ true
+  pub most : leb (transfer p .moved .0) (limit p) ≡ true
+  pub part : eqb (transfer p .part % 2 ^ (32 - 8 * partBytes p)) 0 ≡ true
+
+phase-of : (p : Phase) → phaseOk p ≡ true → PhaseOk p
+unfolding phaseOk
+phase-of p h =
+    let z = three (ltb (transfer p .length .0) 4096) (leb (transfer p .moved .0) (limit p)) (eqb (transfer p .part % 2 ^ (32 - 8 * partBytes p)) 0) h in
+    record { short = z .0; most = z .1; part = z .2 }
+
+phase-ok : (p : Phase) → PhaseOk p → phaseOk p ≡ true
+unfolding phaseOk
+phase-ok p h = all-three (ltb (transfer p .length .0) 4096) (leb (transfer p .moved .0) (limit p)) (eqb (transfer p .part % 2 ^ (32 - 8 * partBytes p)) 0) (h .short) (h .most) (h .part)
+
+length-short : (c : Command) → ltb (lengthOf c) 4096 ≡ true
+unfolding lengthOf
+length-short c = go (isEntdaa c)
+  where
+    go : (b : Bool) → ltb (cond b 0 (bits 19 8 (firstWord c))) 4096 ≡ true
+    go true = refl
+    go false = lt-ltb (firstWord c / 256 % 4096) 4096 (omega arith)
+
+begun-ok : (c : Command) (a : Bool) → phaseOk (begun c a) ≡ true
+unfolding begun
+begun-ok c a = go (isEntdaa c) (isRead c)
+  where
+    go : (e r : Bool) → phaseOk (cond e (Unrequested (opened c a)) (cond r (Reading (opened c a)) (Writing (opened c a)))) ≡ true
+    go true r = phase-ok (Unrequested (opened c a)) (record { short = length-short c; most = refl; part = refl })
+    go false true = phase-ok (Reading (opened c a)) (record { short = length-short c; most = leb·zero (limit (Reading (opened c a))); part = refl })
+    go false false = phase-ok (Writing (opened c a)) (record { short = length-short c; most = leb·zero (limit (Writing (opened c a))); part = refl })
+
+-- one byte more, below the limit
+one-more : (b : Bool) (length moved : ℕ) → b ≡ false → leb length moved ≡ false → leb (moved + 1) (cond b 0 length) ≡ true
+one-more true length moved e l = absurd (true≢false e)
+one-more false length moved e l = le-leb (moved + 1) length (let k = leb-false length moved l in omega arith)
+
+-- the bytes left move up
+sent-part : (k m w : ℕ) → m % 4 ≡ k → (eqb k 0 ≡ false → w % 2 ^ (32 - 8 * ((4 - k) % 4)) ≡ 0) → eqb (w % 2 ^ 24 * 2 ^ 8 % 2 ^ (32 - 8 * ((4 - (m + 1) % 4) % 4))) 0 ≡ true
+sent-part zero m w e h =
+    let z : (m + 1) % 4 ≡ 1 = omega arith in
+    let g : w % 16777216 * 256 % 256 ≡ 0 = omega arith in
+    rw z (eq-eqb (w % 16777216 * 256 % 256) 0 g)
+sent-part (suc zero) m w e h =
+    let z : (m + 1) % 4 ≡ 2 = omega arith in
+    let y : w % 256 ≡ 0 = h refl in
+    let g : w % 16777216 * 256 % 65536 ≡ 0 = omega arith in
+    rw z (eq-eqb (w % 16777216 * 256 % 65536) 0 g)
+sent-part (suc (suc zero)) m w e h =
+    let z : (m + 1) % 4 ≡ 3 = omega arith in
+    let y : w % 65536 ≡ 0 = h refl in
+    let g : w % 16777216 * 256 % 16777216 ≡ 0 = omega arith in
+    rw z (eq-eqb (w % 16777216 * 256 % 16777216) 0 g)
+sent-part (suc (suc (suc zero))) m w e h =
+    let z : (m + 1) % 4 ≡ 0 = omega arith in
+    let y : w % 16777216 ≡ 0 = h refl in
+    let g : w % 16777216 * 256 % 4294967296 ≡ 0 = omega arith in
+    rw z (eq-eqb (w % 16777216 * 256 % 4294967296) 0 g)
+sent-part (suc (suc (suc (suc k)))) m w e h = absurd (omega arith)
+
+-- a byte is gathered below those before it
+received-part : (k m w b : ℕ) → m % 4 ≡ k → w % 2 ^ (32 - 8 * k) ≡ 0 → eqb (cond (eqb k 3) 0 (w + b * 2 ^ (24 - 8 * k)) % 2 ^ (32 - 8 * ((m + 1) % 4))) 0 ≡ true
+received-part zero m w b e h =
+    let z : (m + 1) % 4 ≡ 1 = omega arith in
+    let y : w % 4294967296 ≡ 0 = h in
+    let g : (w + b * 16777216) % 16777216 ≡ 0 = omega arith in
+    rw z (eq-eqb ((w + b * 16777216) % 16777216) 0 g)
+received-part (suc zero) m w b e h =
+    let z : (m + 1) % 4 ≡ 2 = omega arith in
+    let y : w % 16777216 ≡ 0 = h in
+    let g : (w + b * 65536) % 65536 ≡ 0 = omega arith in
+    rw z (eq-eqb ((w + b * 65536) % 65536) 0 g)
+received-part (suc (suc zero)) m w b e h =
+    let z : (m + 1) % 4 ≡ 3 = omega arith in
+    let y : w % 65536 ≡ 0 = h in
+    let g : (w + b * 256) % 256 ≡ 0 = omega arith in
+    rw z (eq-eqb ((w + b * 256) % 256) 0 g)
+received-part (suc (suc (suc zero))) m w b e h =
+    let z : (m + 1) % 4 ≡ 0 = omega arith in
+    rw z
+received-part (suc (suc (suc (suc k)))) m w b e h = absurd (omega arith)
+
+pick : (b : Bool) (x y k : ℕ) (n : ℕ) → eqb k 0 ≡ b → y % n ≡ 0 → eqb k 0 ≡ false → cond b x y % n ≡ 0
+pick true x y k n e h f = absurd (true≢false (sym e ∙ f))
+pick false x y k n e h f = h
+
+sent-ok : (t : Transfer) (first : ℕ) → unattached (Writing t) ≡ false → leb (t .length .0) (t .moved .0) ≡ false → PhaseOk (Writing t) → phaseOk (Writing (advanced t (cond (fresh t) first (t .part) % 2 ^ 24 * 2 ^ 8))) ≡ true
+sent-ok t first u l h =
+    let m = t .moved .0 in
+    phase-ok (Writing (advanced t (cond (fresh t) first (t .part) % 2 ^ 24 * 2 ^ 8)))
+    (record {
+      short = h .short;
+      most = one-more (unattached (Writing t)) (t .length .0) m u l;
+      part = sent-part (m % 4) m (cond (fresh t) first (t .part)) refl (λ n. pick (fresh t) first (t .part) (m % 4) (2 ^ (32 - 8 * ((4 - m % 4) % 4))) refl (eqb-true _ 0 (h .part)) n);
+    })
+
+received-ok : (t : Transfer) (b : ℕ) → unattached (Reading t) ≡ false → leb (t .length .0) (t .moved .0) ≡ false → PhaseOk (Reading t) → phaseOk (Reading (advanced t (cond (fills t) 0 (t .part + b * 2 ^ (24 - 8 * (t .moved .0 % 4)))))) ≡ true
+received-ok t b u l h =
+    let m = t .moved .0 in
+    phase-ok (Reading (advanced t (cond (fills t) 0 (t .part + b * 2 ^ (24 - 8 * (m % 4))))))
+    (record {
+      short = h .short;
+      most = one-more (unattached (Reading t)) (t .length .0) m u l;
+      part = received-part (m % 4) m (t .part) b refl (eqb-true _ 0 (h .part));
+    })
+
+-- an assignment's states have the same tests
+requested-ok : (p : Phase) → assigning p ≡ true → phaseOk p ≡ true → phaseOk (Requested (transfer p)) ≡ true
+unfolding phaseOk
+requested-ok Idle a h = absurd (false≢true a)
+requested-ok (Writing t) a h = absurd (false≢true a)
+requested-ok (Reading t) a h = absurd (false≢true a)
+requested-ok (Unrequested t) a h = h
+requested-ok (Requested t) a h = h
+requested-ok (Answered t) a h = h
+
+taken-ok : (b : Bool) (p : Phase) → assigning p ≡ true → phaseOk p ≡ true → phaseOk (cond b (Answered (transfer p)) (Requested (transfer p))) ≡ true
+unfolding phaseOk
+taken-ok true p a h = requested-ok p a h
+taken-ok false p a h = requested-ok p a h
+
+idle-ok : phaseOk Idle ≡ true
+unfolding phaseOk
+idle-ok = refl
+
+enable-phase : (s : View) (b : Bool) → phaseOk (s .phase) ≡ true → phaseOk (enable s b .phase) ≡ true
+unfolding enable
+enable-phase s true h = idle-ok
+enable-phase s false h = h
+
+write-phase : (s : View) (x : Row) (v : ℕ) → phaseOk (s .phase) ≡ true → phaseOk (effect (write x s v) .phase) ≡ true
+write-phase s absent v h = h
+write-phase s (shows f) v h = h
+write-phase s (holds c) v h = h
+write-phase s (pushes q) v h = h
+write-phase s (takes q) v h = h
+write-phase s enables v h = enable-phase s (bit 0 v) h
+write-phase s acknowledges v h = h
+
+pub phase-kept : (s : View) (c : Call) → Passed (decide s c) → phaseOk (s .phase) ≡ true → phaseOk (effect (decide s c) .phase) ≡ true
+unfolding start send receive finish interrupt request takeAddress
+phase-kept s (Read o) f h = rw (read-untouched s (row (registerAt o)) .phaseSame) h
+phase-kept s (Write o v) f h = write-phase s (row (registerAt o)) v h
+phase-kept s Start f h = begun-ok (command (s .queues .cmd)) (attached s (command (s .queues .cmd)))
+phase-kept s Send f h =
+    let e = writing-is (s .phase) (not-false (writing (s .phase)) (f .1 .1 .1 .0)) in
+    sent-ok (transfer (s .phase)) (s .queues .sdo .first) (subst (λ (p : Phase). unattached p ≡ false) e (f .1 .1 .0)) (f .1 .1 .1 .1 .0) (subst PhaseOk e (phase-of (s .phase) h))
+phase-kept s (Receive b) f h =
+    let e = reading-is (s .phase) (not-false (reading (s .phase)) (f .1 .1 .1 .0)) in
+    received-ok (transfer (s .phase)) b (subst (λ (p : Phase). unattached p ≡ false) e (f .1 .1 .0)) (f .1 .1 .1 .1 .0) (subst PhaseOk e (phase-of (s .phase) h))
+phase-kept s (Finish code) f h = idle-ok
+phase-kept s (Interrupt a b) f h = h
+phase-kept s (Request v w) f h = requested-ok (s .phase) (not-false (assigning (s .phase)) (or-left (not (assigning (s .phase))) (requested (s .phase)) (f .1 .1 .0))) h
+phase-kept s Take f h = taken-ok (eqb (ones (s .queues .sdo .first / 2 ^ 24) % 2) 1) (s .phase) (requested-assigns (s .phase) (not-false (requested (s .phase)) (f .1 .1 .0))) h
+
+-- ── In reset ──────────────────────────────────────────────────────────────────────────────────────────────────
+released-ok : (c : Control) (p : Phase) (q : Queues) → c .held ≡ false → resetOk c p q ≡ true
+unfolding resetOk
+released-ok c p q e = rw e
+
+-- either released, or all is clear
+reset-ok : (c c′ : Control) (p p′ : Phase) (q q′ : Queues) → c′ .held ≡ c .held → p′ ≡ p → (queuesClear q ≡ true → controlClear c ≡ true → (queuesClear q′ ≡ true) × (controlClear c′ ≡ true)) → resetOk c p q ≡ true → resetOk c′ p′ q′ ≡ true
+unfolding resetOk controlClear
+reset-ok c c′ p p′ q q′ e d g h = go (c .held) refl
+  where
+    go : (b : Bool) → c .held ≡ b → (not (c′ .held) || (queuesClear q′ && controlClear c′ && idle p′)) ≡ true
+    go false k = rw (e ∙ k)
+    go true k =
+        let z = three (queuesClear q) (controlClear c) (idle p) (rw k at h) in
+        let y = g (z .0) (z .1) in
+        rw (e ∙ k) (all-three (queuesClear q′) (controlClear c′) (idle p′) (y .0) (y .1) (ap idle d ∙ z .2))
+
+not-and : (a b : Bool) → not a ≡ true → not (b && a) ≡ true
+not-and true b e = absurd (false≢true e)
+not-and false true e = refl
+not-and false false e = refl
+
+-- pending bits that are clear stay so
+pending-clear : (c : Control) (x y z : Bool) → controlClear c ≡ true → controlClear (pending (x && c .cmdrpending) (y && c .ibipending) (z && c .daapending) c) ≡ true
+unfolding controlClear
+pending-clear c x y z h =
+    let k = five (eqb (c .sync) 0) (eqb (c .ibisync) 0) (not (c .cmdrpending)) (not (c .ibipending)) (not (c .daapending)) h in
+    all-five (eqb (c .sync) 0) (eqb (c .ibisync) 0) (not (x && c .cmdrpending)) (not (y && c .ibipending)) (not (z && c .daapending)) (k .0) (k .1) (not-and (c .cmdrpending) x (k .2)) (not-and (c .ibipending) y (k .3)) (not-and (c .daapending) z (k .4))
+
+-- nothing can be taken from a ring that is clear
+none-there : (r : Ring) → ringClear r ≡ true → eqb (r .level .0) 0 ≡ false → ⊥
+none-there r z e = true≢false (sym (and-true (eqb (r .head) 0) (eqb (r .level .0) 0) z .1) ∙ e)
+
+clear-queues : (q : Queues) → queuesClear q ≡ true → (ringClear (q .cmd) ≡ true) × (ringClear (q .cmdr) ≡ true) × (ringClear (q .sdo) ≡ true) × (ringClear (q .sdi) ≡ true) × (ringClear (q .ibi) ≡ true)
+unfolding queuesClear
+clear-queues q h = five (ringClear (q .cmd)) (ringClear (q .cmdr)) (ringClear (q .sdo)) (ringClear (q .sdi)) (ringClear (q .ibi)) h
+
+clear-at : (l : Controller) (q : Queue) → queuesClear (l .bank .state .queues) ≡ true → eqb (of q (viewRings l .queues) .level) 0 ≡ false → ⊥
+clear-at l Cmd c f = none-there (l .bank .state .queues .cmd) (clear-queues (l .bank .state .queues) c .0) f
+clear-at l Cmdr c f = none-there (l .bank .state .queues .cmdr) (clear-queues (l .bank .state .queues) c .1) f
+clear-at l Sdo c f = none-there (l .bank .state .queues .sdo) (clear-queues (l .bank .state .queues) c .2) f
+clear-at l Sdi c f = none-there (l .bank .state .queues .sdi) (clear-queues (l .bank .state .queues) c .3) f
+clear-at l Ibi c f = none-there (l .bank .state .queues .ibi) (clear-queues (l .bank .state .queues) c .4) f
+
+clears-held : (q : Queue) (b : Bool) (c : Control) → clears q b c .held ≡ c .held
+clears-held Cmd b c = refl
+clears-held Cmdr b c = refl
+clears-held Sdo b c = refl
+clears-held Sdi b c = refl
+clears-held Ibi b c = refl
+
+-- in reset there is nothing to take
+-- a row keeps what holds in reset: there nothing can be taken or pushed
+abbrev ResetOk : Controller → Control → Phase → Five QueueOp → Type 0
+ResetOk l c p o = resetOk c p (onRings o (l .bank .state .queues)) ≡ true
+
+abbrev Before : Controller → Type 0
+Before l = resetOk (l .bank .state .control) (l .bank .state .phase) (l .bank .state .queues) ≡ true
+
+read-reset : (l : Controller) (x : Row) → Passed (read x (viewRings l)) → Before l → (let e = effect (read x (viewRings l)) in ResetOk l (e .control) (e .phase) (e .ops))
+unfolding onRing
+read-reset l absent e h = h
+read-reset l (shows f) e h = h
+read-reset l (holds c) e h = h
+read-reset l (pushes q) e h = h
+read-reset l (takes q) e h = reset-ok (l .bank .state .control) _ (l .bank .state .phase) _ (l .bank .state .queues) _ (clears-held q _ (l .bank .state .control)) refl (λ c d. absurd (clear-at l q c (e .0))) h
+read-reset l enables e h = h
+read-reset l acknowledges e h = h
+
+enable-reset : (l : Controller) (b : Bool) → (let e = enable (viewRings l) b in ResetOk l (e .control) (e .phase) (e .ops))
+unfolding enable resetOk queuesClear controlClear onRing
+enable-reset l true = refl
+enable-reset l false = refl
+
+write-reset : (l : Controller) (x : Row) (v : ℕ) → Passed (write x (viewRings l) v) → Before l → (let e = effect (write x (viewRings l) v) in ResetOk l (e .control) (e .phase) (e .ops))
+unfolding onRing
+write-reset l absent v f h = h
+write-reset l (shows g) v f h = h
+write-reset l (holds c) v f h = h
+write-reset l (pushes q) v f h = released-ok _ _ _ (clears-held q true (l .bank .state .control) ∙ f .0)
+write-reset l (takes q) v f h = h
+write-reset l enables v f h = enable-reset l (bit 0 v)
+write-reset l acknowledges v f h = reset-ok (l .bank .state .control) _ (l .bank .state .phase) _ (l .bank .state .queues) _ refl refl (λ c d. (c, pending-clear (l .bank .state .control) (not (bit 5 v)) (not (bit 6 v)) (not (bit 7 v)) d)) h
+
+pub reset-kept : (l : Controller) (c : Call) → Passed (decide (viewRings l) c) → Before l → (let e = effect (decide (viewRings l) c) in ResetOk l (e .control) (e .phase) (e .ops))
+unfolding start send receive finish interrupt request takeAddress
+reset-kept l (Read o) f h = read-reset l (row (registerAt o)) f h
+reset-kept l (Write o v) f h = write-reset l (row (registerAt o)) v f h
+reset-kept l Start f h = released-ok _ _ _ (f .0)
+reset-kept l Send f h = released-ok _ _ _ (f .0)
+reset-kept l (Receive b) f h = released-ok _ _ _ (f .0)
+reset-kept l (Finish code) f h = released-ok _ _ _ (f .1 .0)
+reset-kept l (Interrupt a b) f h = released-ok _ _ _ (f .1 .0)
+reset-kept l (Request v w) f h = released-ok _ _ _ (f .0)
+reset-kept l Take f h = released-ok _ _ _ (f .0)

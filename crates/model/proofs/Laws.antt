@@ -1,0 +1,194 @@
+-- The other laws of `step`: engines agree, refusals change nothing, a store keeps its length, queues not named stay.
+use Prim.Native.Nat.{ℕ}
+use mathlib.Core.Path.{_≡_, refl, ap, ap₂, sym, _∙_, subst}
+use mathlib.Core.Bool.{Bool, true, false, cond, not, _||_, true≢false, false≢true}
+use mathlib.Core.List.{List, [], _∷_}
+use mathlib.Core.Option.{Option, none, some}
+use lib.Dec.{eqb}
+use lib.ListN.{length}
+use borrow.Author.Tests.{eq-eqb, ne-eqb, eqb-true, not-false}
+use Rattle.ring.specs.Ring.{entries}
+use Rattle.bank.specs.declared.Bank.{Bank}
+use Rattle.bank.specs.declared.fresh.Sizes.{Sizes}
+use Rattle.bank.specs.Phases.{transfer}
+use Rattle.bank.specs.SetUp.{bankOf, setUp, total}
+use Rattle.bank.specs.Formed.{wellFormed}
+use Rattle.bank.proofs.Bools.{or-left, or-right}
+use Rattle.bank.proofs.Laws.{Formed, formed-of, bank-is, fresh-formed, ready}
+use Rattle.registers.specs.Map.{registerAt}
+use Rattle.model.specs.declared.Call.{Call}
+use Rattle.model.specs.declared.Call.the-variants.{Read, Write, Start, Send, Receive, Finish, Interrupt, Request, Take}
+use Rattle.bank.specs.declared.Answer.{Answer}
+use Rattle.model.specs.View.{bit, Queue, Cmd, Cmdr, Sdo, Sdi, Ibi, Five, of, View}
+use Rattle.model.specs.Decision.{QueueOp, keep, keepAll, only, Effect, Decision, first, effect}
+use Rattle.model.specs.Registers.{Row, absent, shows, holds, pushes, takes, enables, acknowledges, row, enable, read, write}
+use Rattle.model.specs.Calls.{decide, start, send, receive, finish, interrupt, request, takeAddress}
+use Rattle.model.specs.Engine.{Step, outcome, step, final, answers}
+use Rattle.model.specs.Rings.{Controller, Area, areas, wordsIn, viewRings, onRing, onRings, onStores, settleRings, guardRings, rings}
+use Rattle.model.specs.Lists.{ListQueue, Lists, lists, onWords}
+use Rattle.model.specs.Laws.{fresh, freshLists, Agreement, EnginesAgree, RefusalChangesNothing, StoreKeepsLength, same, readNames, writeNames, names, OthersStay}
+use Rattle.model.proofs.Tests.{Passed, passed}
+use Rattle.model.proofs.Numbers.{zeroOr19, effect-number}
+use Rattle.model.proofs.Room.{fits}
+use Rattle.model.proofs.Rings.{listQueue, listed, length-all, base-same, settled-words, onArea}
+use Rattle.model.proofs.Simulation.{Sound, same-answer, stays-sound, same-final}
+
+-- ── A step is refused by a number, or settled ─────────────────────────────────────────────────────────────────
+-- what the two tests of the bank leave to decide
+by-guard : (P : Option ℕ → Type 0) (l : Controller) (d : Decision) → ((n : ℕ) → P (some n)) → (wellFormed (l .bank) ≡ true → length (l .store) ≡ total (l .bank .state .queues) → P (first d)) → P (first (guardRings l d))
+unfolding guardRings
+by-guard P l d r s = go (wellFormed (l .bank)) (eqb (length (l .store)) (total (l .bank .state .queues))) refl refl
+  where
+    go : (a b : Bool) → wellFormed (l .bank) ≡ a → eqb (length (l .store)) (total (l .bank .state .queues)) ≡ b → P (cond (not a) (some 21) (cond (not b) (some 22) (first d)))
+    go false b e f = r 21
+    go true false e f = r 22
+    go true true e f = s e (eqb-true (length (l .store)) (total (l .bank .state .queues)) f)
+
+-- a property of the outcome holds where it holds of every refusal and of the settled call
+module _ (P : Step Controller → Type 0) (l : Controller) (c : Call) where
+  abbrev Q : Option ℕ → Type 0
+  Q n = P (outcome n (effect (decide (viewRings l) c)) l (settleRings l (effect (decide (viewRings l) c))))
+
+  by-outcome : ((n : ℕ) → Q (some n)) → (wellFormed (l .bank) ≡ true → length (l .store) ≡ total (l .bank .state .queues) → Passed (decide (viewRings l) c) → Q none) → P (step rings l c)
+  unfolding step guardRings
+  by-outcome r s = by-guard Q l (decide (viewRings l) c) r (λ f z. go f z (first (decide (viewRings l) c)) refl)
+    where
+      go : wellFormed (l .bank) ≡ true → length (l .store) ≡ total (l .bank .state .queues) → (n : Option ℕ) → first (decide (viewRings l) c) ≡ n → Q n
+      go f z none e = s f z (passed (decide (viewRings l) c) e)
+      go f z (some n) e = r n
+
+-- ── Refusals ──────────────────────────────────────────────────────────────────────────────────────────────────
+neither-is : (n : ℕ) → zeroOr19 n ≡ true → (n ≡ 0 → ⊥) → (n ≡ 19 → ⊥) → ⊥
+neither-is n h a b = false≢true (sym (rw (ne-eqb n 0 a, ne-eqb n 19 b)) ∙ h)
+
+pub refusal-changes-nothing : RefusalChangesNothing
+unfolding RefusalChangesNothing
+refusal-changes-nothing l c =
+    by-outcome (λ r. (r .answer .number ≡ 0 → ⊥) → (r .answer .number ≡ 19 → ⊥) → (r .next ≡ l) × (r .answer .value ≡ 0)) l c (λ n a b. (refl, refl)) (λ f z p a b. absurd (neither-is (effect (decide (viewRings l) c) .number) (effect-number (viewRings l) c) a b))
+
+pub store-keeps-length : StoreKeepsLength
+unfolding StoreKeepsLength
+store-keeps-length l c = by-outcome (λ r. length (r .next .store) ≡ length (l .store)) l c (λ n. refl) (λ f z p. length-all (effect (decide (viewRings l) c) .ops) (areas (l .bank .state .queues)) (l .store))
+
+-- ── Queues that a call does not name ──────────────────────────────────────────────────────────────────────────
+kept-all : (k : Queue) → of k keepAll ≡ keep
+kept-all Cmd = refl
+kept-all Cmdr = refl
+kept-all Sdo = refl
+kept-all Sdi = refl
+kept-all Ibi = refl
+
+kept-only : (q : Queue) (o : QueueOp) (k : Queue) → same q k ≡ false → of k (only q o) ≡ keep
+kept-only Cmd o Cmd e = absurd (true≢false e)
+kept-only Cmd o Cmdr e = refl
+kept-only Cmd o Sdo e = refl
+kept-only Cmd o Sdi e = refl
+kept-only Cmd o Ibi e = refl
+kept-only Cmdr o Cmd e = refl
+kept-only Cmdr o Cmdr e = absurd (true≢false e)
+kept-only Cmdr o Sdo e = refl
+kept-only Cmdr o Sdi e = refl
+kept-only Cmdr o Ibi e = refl
+kept-only Sdo o Cmd e = refl
+kept-only Sdo o Cmdr e = refl
+kept-only Sdo o Sdo e = absurd (true≢false e)
+kept-only Sdo o Sdi e = refl
+kept-only Sdo o Ibi e = refl
+kept-only Sdi o Cmd e = refl
+kept-only Sdi o Cmdr e = refl
+kept-only Sdi o Sdo e = refl
+kept-only Sdi o Sdi e = absurd (true≢false e)
+kept-only Sdi o Ibi e = refl
+kept-only Ibi o Cmd e = refl
+kept-only Ibi o Cmdr e = refl
+kept-only Ibi o Sdo e = refl
+kept-only Ibi o Sdi e = refl
+kept-only Ibi o Ibi e = absurd (true≢false e)
+
+read-kept : (s : View) (x : Row) (k : Queue) → readNames x k ≡ false → of k (effect (read x s) .ops) ≡ keep
+read-kept s absent k h = kept-all k
+read-kept s (shows f) k h = kept-all k
+read-kept s (holds c) k h = kept-all k
+read-kept s (pushes q) k h = kept-all k
+read-kept s (takes q) k h = kept-only q _ k h
+read-kept s enables k h = kept-all k
+read-kept s acknowledges k h = kept-all k
+
+enable-kept : (s : View) (b : Bool) (k : Queue) → b ≡ false → of k (enable s b .ops) ≡ keep
+unfolding enable
+enable-kept s true k h = absurd (true≢false h)
+enable-kept s false k h = kept-all k
+
+write-kept : (s : View) (x : Row) (v : ℕ) (k : Queue) → writeNames x v k ≡ false → of k (effect (write x s v) .ops) ≡ keep
+write-kept s absent v k h = kept-all k
+write-kept s (shows f) v k h = kept-all k
+write-kept s (holds c) v k h = kept-all k
+write-kept s (pushes q) v k h = kept-only q _ k h
+write-kept s (takes q) v k h = kept-all k
+write-kept s enables v k h = enable-kept s (bit 0 v) k h
+write-kept s acknowledges v k h = kept-all k
+
+finish-kept : (a b : QueueOp) (k : Queue) → same Cmdr k ≡ false → same Sdi k ≡ false → of k (record { cmd = keep; cmdr = a; sdo = keep; sdi = b; ibi = keep }) ≡ keep
+finish-kept a b Cmd e f = refl
+finish-kept a b Cmdr e f = absurd (true≢false e)
+finish-kept a b Sdo e f = refl
+finish-kept a b Sdi e f = absurd (true≢false f)
+finish-kept a b Ibi e f = refl
+
+keeps : (s : View) (c : Call) (k : Queue) → names c k ≡ false → of k (effect (decide s c) .ops) ≡ keep
+unfolding start send receive finish interrupt request takeAddress
+keeps s (Read o) k h = read-kept s (row (registerAt o)) k h
+keeps s (Write o v) k h = write-kept s (row (registerAt o)) v k h
+keeps s Start k h = kept-only Cmd _ k h
+keeps s Send k h = kept-only Sdo _ k h
+keeps s (Receive b) k h = kept-only Sdi _ k h
+keeps s (Finish code) k h = finish-kept _ _ k (or-left (same Cmdr k) (same Sdi k) h) (or-right (same Cmdr k) (same Sdi k) h)
+keeps s (Interrupt a b) k h = kept-only Ibi _ k h
+keeps s (Request v w) k h = kept-only Sdi _ k h
+keeps s Take k h = kept-only Sdo _ k h
+
+area-kept : (o : QueueOp) (a : Area) → o ≡ keep → onArea o a ≡ a
+unfolding onRing
+area-kept o a e = ap (λ (x : QueueOp). onArea x a) e
+
+pub others-stay : OthersStay
+unfolding OthersStay
+others-stay l c k h =
+    by-outcome (λ r. (of k (areas (r .next .bank .state .queues)) ≡ of k (areas (l .bank .state .queues))) × (wordsIn (of k (areas (r .next .bank .state .queues))) (r .next .store) ≡ wordsIn (of k (areas (l .bank .state .queues))) (l .store))) l c
+    (λ n. (refl, refl))
+    (λ f z p.
+    let q = l .bank .state .queues in
+    let o = effect (decide (viewRings l) c) .ops in
+    let r = ready q (l .store) (formed-of (l .bank) f .queues) z in
+    let e = keeps (viewRings l) c k h in
+    (base-same q (l .store) o r k ∙ area-kept (of k o) (of k (areas q)) e, settled-words q (l .store) o r (fits (viewRings l) c p) k ∙ ap (λ (x : QueueOp). onWords x (wordsIn (of k (areas q)) (l .store))) e))
+
+-- ── Both engines ──────────────────────────────────────────────────────────────────────────────────────────────
+same-answers : (cs : List Call) (l : Controller) (m : Lists) → Sound l m → answers rings l cs ≡ answers lists m cs
+unfolding answers
+same-answers [] l m h = refl
+same-answers (c ∷ cs) l m h = ap₂ (λ (a : Answer) (r : List Answer). a ∷ r) (same-answer l m c h) (same-answers cs (step rings l c .next) (step lists m c .next) (stays-sound l m c h))
+
+listed-words : (l : Controller) (k : Queue) → of k (listed l .queues) .words ≡ wordsIn (of k (areas (l .bank .state .queues))) (l .store)
+listed-words l Cmd = refl
+listed-words l Cmdr = refl
+listed-words l Sdo = refl
+listed-words l Sdi = refl
+listed-words l Ibi = refl
+
+pub fresh-sound : (caps marks : Sizes) (id : ℕ) (store : List ℕ) → setUp caps marks id .answer .number ≡ 0 → length store ≡ total (setUp caps marks id .bank .state .queues) → Sound (fresh caps marks id store) (freshLists caps marks id)
+unfolding entries
+fresh-sound caps marks id store n z =
+    subst (λ (b : Bank). length store ≡ total (b .state .queues) → Sound (record { bank = b; store = store }) (record { regs = b .state .regs; control = b .state .control; phase = b .state .phase; tables = record { flags = b .flags; commands = b .commands; payloads = b .payloads }; queues = freshLists caps marks id .queues })) (sym (bank-is caps marks id n))
+    (λ y. record { is = refl; formed = fresh-formed caps marks id n; size = y })
+    z
+
+pub engines-agree : EnginesAgree
+unfolding EnginesAgree
+engines-agree caps marks id store cs n z =
+    let h = fresh-sound caps marks id store n z in
+    let l = final rings (fresh caps marks id store) cs in
+    record {
+      sameAnswers = same-answers cs (fresh caps marks id store) (freshLists caps marks id) h;
+      sameWords = λ k. sym (listed-words l k) ∙ ap (λ (x : Lists). of k (x .queues) .words) (same-final cs (fresh caps marks id store) (freshLists caps marks id) h .is);
+    }

@@ -1,0 +1,15 @@
+pub mod Tests
+pub mod Numbers
+pub mod Phases
+pub mod Offsets
+pub mod Cut
+pub mod Invariant
+pub mod Room
+pub mod Rings
+pub mod Formed
+pub mod Events
+pub mod ListDemand
+pub mod Simulation
+pub mod Laws
+pub mod Demand
+pub mod Cases

@@ -1,0 +1,86 @@
+-- The numbers of a call: an effect has 0 or 19, a refusal neither.
+use Prim.Native.Nat.{ℕ, _/_, _%_, _^_}
+use mathlib.Core.Path.{_≡_, refl}
+use mathlib.Core.Bool.{Bool, true, false, cond, _||_}
+use lib.Dec.{eqb}
+use lib.Count.{ones}
+use Rattle.registers.specs.Map.{registerAt}
+use Rattle.model.specs.declared.Call.{Call}
+use Rattle.model.specs.declared.Call.the-variants.{Read, Write, Start, Send, Receive, Finish, Interrupt, Request, Take}
+use Rattle.model.specs.View.{bit, View}
+use Rattle.model.specs.Decision.{effect}
+use Rattle.model.specs.Registers.{Row, absent, shows, holds, pushes, takes, enables, acknowledges, row, enable, read, write}
+use Rattle.model.specs.Calls.{decide, start, send, receive, finish, interrupt, request, takeAddress}
+use Rattle.model.proofs.Tests.{refusals}
+
+pub read-number : (s : View) (x : Row) → effect (read x s) .number ≡ 0
+read-number s absent = refl
+read-number s (shows f) = refl
+read-number s (holds c) = refl
+read-number s (pushes q) = refl
+read-number s (takes q) = refl
+read-number s enables = refl
+read-number s acknowledges = refl
+
+enable-number : (s : View) (b : Bool) → enable s b .number ≡ 0
+unfolding enable
+enable-number s true = refl
+enable-number s false = refl
+
+pub write-number : (s : View) (x : Row) (v : ℕ) → effect (write x s v) .number ≡ 0
+write-number s absent v = refl
+write-number s (shows f) v = refl
+write-number s (holds c) v = refl
+write-number s (pushes q) v = refl
+write-number s (takes q) v = refl
+write-number s enables v = enable-number s (bit 0 v)
+write-number s acknowledges v = refl
+
+abbrev pub zeroOr19 : ℕ → Bool
+zeroOr19 n = eqb n 0 || eqb n 19
+
+take-number : (b : Bool) → zeroOr19 (cond b 0 19) ≡ true
+take-number true = refl
+take-number false = refl
+
+pub effect-number : (s : View) (c : Call) → zeroOr19 (effect (decide s c) .number) ≡ true
+unfolding start send receive finish interrupt request takeAddress
+effect-number s (Read o) = rw (read-number s (row (registerAt o)))
+effect-number s (Write o v) = rw (write-number s (row (registerAt o)) v)
+effect-number s Start = refl
+effect-number s Send = refl
+effect-number s (Receive b) = refl
+effect-number s (Finish code) = refl
+effect-number s (Interrupt a b) = refl
+effect-number s (Request v w) = refl
+effect-number s Take = take-number (eqb (ones (s .queues .sdo .first / 2 ^ 24) % 2) 1)
+
+pub read-refusals : (s : View) (x : Row) → refusals (read x s) ≡ true
+read-refusals s absent = refl
+read-refusals s (shows f) = refl
+read-refusals s (holds c) = refl
+read-refusals s (pushes q) = refl
+read-refusals s (takes q) = refl
+read-refusals s enables = refl
+read-refusals s acknowledges = refl
+
+pub write-refusals : (s : View) (x : Row) (v : ℕ) → refusals (write x s v) ≡ true
+write-refusals s absent v = refl
+write-refusals s (shows f) v = refl
+write-refusals s (holds c) v = refl
+write-refusals s (pushes q) v = refl
+write-refusals s (takes q) v = refl
+write-refusals s enables v = refl
+write-refusals s acknowledges v = refl
+
+pub all-refusals : (s : View) (c : Call) → refusals (decide s c) ≡ true
+unfolding start send receive finish interrupt request takeAddress
+all-refusals s (Read off) = read-refusals s (row (registerAt off))
+all-refusals s (Write off v) = write-refusals s (row (registerAt off)) v
+all-refusals s Start = refl
+all-refusals s Send = refl
+all-refusals s (Receive b) = refl
+all-refusals s (Finish code) = refl
+all-refusals s (Interrupt a b) = refl
+all-refusals s (Request v w) = refl
+all-refusals s Take = refl

@@ -1,0 +1,41 @@
+-- The tests of a decision: what is known where none holds, and where one does.
+use Prim.Native.Nat.{ℕ, zero, suc}
+use mathlib.Core.Path.{_≡_, refl, ap, sym, _∙_, subst}
+use mathlib.Core.Bool.{Bool, true, false, not, _&&_, false≢true}
+use mathlib.Core.Option.{Option, none, some, Option·none-ne-some, Option·some-injective}
+use lib.Dec.{eqb}
+use Rattle.model.specs.Decision.{Effect, Decision, does, _⇒_∣_, first}
+
+-- no test holds
+abbrev pub Passed : Decision → Type 0
+Passed (does x) = Unit {0}
+Passed (b ⇒ n ∣ ts) = (b ≡ false) × Passed ts
+
+pub passed : (ts : Decision) → first ts ≡ none → Passed ts
+passed (does x) e = tt
+passed (true ⇒ n ∣ ts) e = absurd (Option·none-ne-some n (sym e))
+passed (false ⇒ n ∣ ts) e = (refl, passed ts e)
+
+-- no test answers 0 or 19
+abbrev pub refusals : Decision → Bool
+refusals (does x) = true
+refusals (b ⇒ n ∣ ts) = not (eqb n 0) && not (eqb n 19) && refusals ts
+
+pub record Refusal (n : ℕ) : Type 0 where
+  pub not0 : eqb n 0 ≡ false
+  pub not19 : eqb n 19 ≡ false
+
+three : (a b c : Bool) → (not a && not b && c) ≡ true → (a ≡ false) × (b ≡ false) × (c ≡ true)
+three false false c e = (refl, refl, e)
+three false true c e = absurd (false≢true e)
+three true false c e = absurd (false≢true e)
+three true true c e = absurd (false≢true e)
+
+pub refusal : (ts : Decision) (n : ℕ) → refusals ts ≡ true → first ts ≡ some n → Refusal n
+refusal (does x) n k e = absurd (Option·none-ne-some n e)
+refusal (true ⇒ m ∣ ts) n k e =
+    let z = three (eqb m 0) (eqb m 19) (refusals ts) k in
+    subst Refusal (Option·some-injective m n e) (record { not0 = z .0; not19 = z .1 })
+refusal (false ⇒ m ∣ ts) n k e =
+    let z = three (eqb m 0) (eqb m 19) (refusals ts) k in
+    refusal ts n (z .2) e

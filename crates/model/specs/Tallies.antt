@@ -1,0 +1,57 @@
+-- Demand 3 is not empty: three lists of calls on the session's bank, each with the tally that it comes to.
+use Prim.Native.Nat.{ℕ, zero, suc}
+use mathlib.Core.Path.{_≡_}
+use mathlib.Core.Bool.{Bool, true, false}
+use mathlib.Core.List.{List, [], _∷_, _++_}
+use mathlib.Core.Option.{none, some}
+use Rattle.model.specs.declared.Call.{Call}
+use Rattle.model.specs.declared.Call.the-variants.{Read, Write, Start, Send, Finish, Request, Take}
+use Rattle.model.specs.Rings.{rings}
+use Rattle.model.specs.Demand.{Written, Run, Tally, tally}
+use Rattle.model.specs.Cases.{session, release}
+
+-- a word that was taken
+abbrev pub took : ℕ → Bool → Bool → Written
+took w roomSeen promised = record { word = w; taken = true; roomSeen = roomSeen; promised = promised }
+
+-- a run that ended with code 0
+abbrev pub ended : ℕ → ℕ → ℕ → ℕ → Run
+ended value sends addresses receipt = record { value = value; sends = sends; receives = 0; addresses = addresses; ending = some (record { code = 0; receipt = receipt }) }
+
+-- the worked session, with a read of the room before its command
+unfoldable pub sessionCalls : List Call
+sessionCalls = release ∷ Write 0x180 0x1102 ∷ Read 0x0c0 ∷ Write 0xdc 0xa5c30000 ∷ Write 0xd4 0x210 ∷ Start ∷ Send ∷ Send ∷ Finish 0 ∷ Read 0xd8 ∷ Read 0xd8 ∷ []
+
+unfoldable pub sessionTally : Tally
+sessionTally = record { words = record { written = took 0x210 true true ∷ []; roomSeen = false; credit = 3 }; past = ended 0x210 2 0 0x200 ∷ []; now = none; receipts = 0x200 ∷ [] }
+
+-- an address assignment with one wrong parity bit: a request, a take answered 19, a take answered 0
+unfoldable pub assignmentCalls : List Call
+assignmentCalls =
+    release ∷ Read 0x0c0 ∷ Write 0xd4 0x400000 ∷ Write 0xd4 0x07 ∷ Start ∷ Request 1 2 ∷ Write 0xdc 0x11000000 ∷ Take ∷ Write 0xdc 0x13000000 ∷ Take ∷ Finish 0 ∷ Read 0xd8 ∷ []
+
+unfoldable pub assignmentTally : Tally
+assignmentTally = record { words = record { written = took 0x400000 true true ∷ took 0x07 false true ∷ []; roomSeen = false; credit = 2 }; past = ended 0x400000 0 3 0 ∷ []; now = none; receipts = 0 ∷ [] }
+
+-- CMDR holds four receipts: the fifth finish is refused by 13, one receipt is read, and the same finish is made again
+unfoldable pub writes : ℕ → List Call
+writes zero = []
+writes (suc n) = Write 0xd4 0x10 ∷ Start ∷ Finish 0 ∷ writes n
+
+unfoldable pub retryCalls : List Call
+retryCalls = release ∷ Write 0x180 0x1102 ∷ writes 5 ++ (Read 0xd8 ∷ Finish 0 ∷ [])
+
+unfoldable pub retryTally : Tally
+retryTally =
+    let w = took 0x10 false false in
+    record {
+      words = record { written = w ∷ w ∷ w ∷ w ∷ w ∷ []; roomSeen = false; credit = 0 };
+      past = ended 0x10 0 0 0 ∷ ended 0x10 0 0 1 ∷ ended 0x10 0 0 2 ∷ ended 0x10 0 0 3 ∷ ended 0x10 0 0 4 ∷ [];
+      now = none;
+      receipts = 0 ∷ [];
+    }
+
+pub record Counted : Type 0 where
+  pub worked : tally rings none session sessionCalls ≡ some sessionTally
+  pub assignment : tally rings none session assignmentCalls ≡ some assignmentTally
+  pub retry : tally rings none session retryCalls ≡ some retryTally

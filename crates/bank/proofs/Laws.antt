@@ -11,8 +11,8 @@ use Rattle.ring.specs.declared.Ring.{Ring}
 use Rattle.ring.specs.Ring.{Valid}
 use Rattle.bank.specs.declared.Queues.{Queues}
 use Rattle.bank.specs.declared.Bank.{Bank}
-use Rattle.bank.specs.declared.fresh.Sizes.{Sizes}
-use Rattle.bank.specs.declared.fresh.SetUp.{SetUp}
+use Rattle.bank.specs.declared.Sizes.{Sizes}
+use Rattle.bank.specs.declared.SetUp.{SetUp}
 use Rattle.bank.specs.SetUp.{sizeOk, sizesOk, ringOf, bankOf, refused, setUp, total}
 use Rattle.bank.specs.Formed.{ringOk, queuesOk, regsOk, flagsOk, phaseOk, queuesClear, controlClear, resetOk, wellFormed}
 use Rattle.bank.proofs.Bools.{and-true, three, five, all-three, all-five}

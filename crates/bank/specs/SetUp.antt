@@ -9,8 +9,8 @@ use Rattle.bank.specs.declared.Queues.{Queues}
 use Rattle.bank.specs.declared.Control.{Control}
 use Rattle.bank.specs.declared.Phase.the-variants.{Idle}
 use Rattle.bank.specs.declared.Bank.{Bank}
-use Rattle.bank.specs.declared.fresh.Sizes.{Sizes}
-use Rattle.bank.specs.declared.fresh.SetUp.{SetUp}
+use Rattle.bank.specs.declared.Sizes.{Sizes}
+use Rattle.bank.specs.declared.SetUp.{SetUp}
 
 -- "Capacities: CMD and SDI 2 to 1,024, the others 1 to 1,024. A watermark is 0 to its queue's capacity"
 abbrev pub sizeOk : ℕ → ℕ → ℕ → Bool

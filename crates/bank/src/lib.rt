@@ -1,11 +1,11 @@
 // One controller's state: five rings, the registers, the open transfer, the device table and the offload memories.
 ghost use mathlib.Core.Path.{_≡_};
 ghost use mathlib.Core.Bool.{cond};
+ghost use Prim.Native.Nat.{_+_};
+ghost use Rattle.bank.specs.SetUp.{sizeOk, total};
 use ring::Bytes;
 use ring::Ring;
 
-pub mod formed;
-pub mod fresh;
 pub mod phases;
 
 // The five queues, in the order of their areas in the store.
@@ -92,9 +92,51 @@ pub struct Answer {
     pub number: u32,
 }
 
+// Five capacities, or five watermarks, as a caller gives them.
+pub struct Sizes {
+    pub cmd: u32,
+    pub cmdr: u32,
+    pub sdo: u32,
+    pub sdi: u32,
+    pub ibi: u32,
+}
+
+// What set-up gives.
+pub struct SetUp {
+    pub bank: Bank,
+    pub answer: Answer,
+}
+
+// Whether a capacity and its watermark are in range.
+pub fn size_ok(least: u32, cap: u32, mark: u32) -> bool
+    ensures { λ b. ⌜ b ≡ sizeOk least cap mark ⌝ }
+{
+    (least <= cap) & (cap <= 1024) & (mark <= cap)
+}
+
 // One of two numbers, by a test.
 pub fn select(test: bool, yes: u32, no: u32) -> u32
     ensures { λ r. ⌜ r ≡ cond test yes no ⌝ }
 {
     if test { yes } else { no }
+}
+
+// A sum over plain numbers: a proof about it need not look into a bank.
+fn sum_of_five(a: u32, b: u32, c: u32, d: u32, e: u32) -> usize
+    ensures { λ n. ⌜ n ≡ a + b + c + d + e ⌝ }
+{
+    a as usize + b as usize + c as usize + d as usize + e as usize
+}
+
+// The length of the store that five queues need.
+pub fn total_of(q: Queues) -> usize
+    ensures { λ n. ⌜ n ≡ total q ⌝ }
+{
+    sum_of_five(
+        q.cmd.cap.0,
+        q.cmdr.cap.0,
+        q.sdo.cap.0,
+        q.sdi.cap.0,
+        q.ibi.cap.0,
+    )
 }

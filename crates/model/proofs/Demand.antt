@@ -10,7 +10,7 @@ use borrow.Author.Tests.{eqb-true, eqb-false}
 use Rattle.ring.specs.Ring.{entries}
 use Rattle.bank.specs.declared.Bank.{Bank}
 use Rattle.bank.specs.declared.Answer.{Answer}
-use Rattle.bank.specs.declared.fresh.Sizes.{Sizes}
+use Rattle.bank.specs.declared.Sizes.{Sizes}
 use Rattle.bank.specs.Phases.{idle}
 use Rattle.bank.specs.SetUp.{bankOf, setUp, total}
 use Rattle.bank.specs.Formed.{wellFormed}

@@ -9,7 +9,7 @@ use lib.ListN.{length}
 use borrow.Author.Tests.{eq-eqb, ne-eqb, eqb-true, not-false}
 use Rattle.ring.specs.Ring.{entries}
 use Rattle.bank.specs.declared.Bank.{Bank}
-use Rattle.bank.specs.declared.fresh.Sizes.{Sizes}
+use Rattle.bank.specs.declared.Sizes.{Sizes}
 use Rattle.bank.specs.Phases.{transfer}
 use Rattle.bank.specs.SetUp.{bankOf, setUp, total}
 use Rattle.bank.specs.Formed.{wellFormed}

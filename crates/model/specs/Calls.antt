@@ -17,6 +17,10 @@ use Rattle.model.specs.Decision.{keep, take, push, push2, unchanged, _wi
 use Rattle.model.specs.Commands.{Command, Single, Ccc, twoWords, firstWord, kindOf, isEntdaa, addressOf, begun, receiptWord, entryWord}
 use Rattle.model.specs.Registers.{row, device, pending, read, write}
 
+-- 6: "a transfer is open"
+abbrev pub busy : View → Bool
+busy s = not (idle (s .phase))
+
 -- ── Start: "5, 6, 8, 9, 15. Takes the whole command; value is its first word." ────────────────────────────────
 -- the whole command waits
 abbrev pub whole : QueueView → Bool
@@ -39,7 +43,7 @@ start s =
     let q = s .queues in
     let c = command (q .cmd) in
     s .control .held ⇒ 5
-    ∣ not (idle (s .phase)) ⇒ 6
+    ∣ busy s ⇒ 6
     ∣ bit 0 (s .regs .ops) ⇒ 8
     ∣ not (whole (q .cmd)) ⇒ 9
     ∣ isEntdaa c && not (empty (q .sdo)) ⇒ 15
@@ -145,7 +149,7 @@ interrupt s a byte =
     let e = entryWord a (cond (bit 2 f) byte 0) (s .control .ibisync) in
     ltb 127 a ⇒ 18
     ∣ s .control .held ⇒ 5
-    ∣ not (idle (s .phase)) ⇒ 6
+    ∣ busy s ⇒ 6
     ∣ not (bit 1 (s .regs .config)) ⇒ 16
     ∣ not (bit 0 (s .regs .config) && bit 0 f && bit 1 f) ⇒ 17
     ∣ full (s .queues .ibi) ⇒ 13

@@ -7,7 +7,7 @@ use mathlib.Core.List.{List, [], _∷_, _++_}
 use mathlib.Core.Option.{Option, none, some}
 use lib.Dec.{ltb, eqb}
 use lib.ListN.{length, take}
-use Rattle.bank.specs.declared.fresh.Sizes.{Sizes}
+use Rattle.bank.specs.declared.Sizes.{Sizes}
 use Rattle.bank.specs.Phases.{idle}
 use Rattle.bank.specs.SetUp.{setUp}
 use Rattle.model.specs.declared.Call.{Call}

@@ -1,0 +1,35 @@
+-- `formed::well_formed` meets its contract.
+use Rattle.bank.specs.Formed.{wellFormed}
+use borrow.Author.Needs.{needs}
+use Rattle.formed.proofs.well_formed.Statement.{statement}
+use Rattle.formed.proofs.well_formed.Tie as tie
+
+queues-ok-requires : tie.Need-queues-ok-requires
+queues-ok-requires c κs = search needs
+
+regs-ok-requires : tie.Need-regs-ok-requires
+regs-ok-requires c κs = search needs
+
+phase-ok-requires : tie.Need-phase-ok-requires
+phase-ok-requires c κs = search needs
+
+reset-ok-requires : tie.Need-reset-ok-requires
+reset-ok-requires c κs = search needs
+
+flags-ok-requires : tie.Need-flags-ok-requires
+flags-ok-requires c κs = search needs
+
+returns : tie.Need-returns
+unfolding wellFormed
+returns c = rw (c .flags-ok .ensures, c .before .reset-ok .ensures, c .before .before .phase-ok .ensures, c .before .before .before .regs-ok .ensures, c .before .before .before .before .queues-ok .ensures)
+
+pub well-formed-spec : {M : Type 1} → statement M
+well-formed-spec =
+    tie.close
+    (tie.spec
+    queues-ok-requires
+    regs-ok-requires
+    phase-ok-requires
+    reset-ok-requires
+    flags-ok-requires
+    returns)

@@ -1,0 +1,70 @@
+-- What the code of a call gives, as a step of the ring engine.
+use Prim.Native.Nat.{ℕ}
+use mathlib.Core.Path.{_≡_}
+use mathlib.Core.Bool.{true, cond}
+use mathlib.Core.List.{List}
+use mathlib.Core.Option.{none}
+use lib.ListN.{length}
+use Rattle.bank.specs.declared.Queues.{Queues}
+use Rattle.bank.specs.declared.Regs.{Regs}
+use Rattle.bank.specs.declared.Control.{Control}
+use Rattle.bank.specs.declared.Phase.{Phase}
+use Rattle.bank.specs.declared.State.{State}
+use Rattle.bank.specs.declared.Bank.{Bank}
+use Rattle.bank.specs.SetUp.{total}
+use Rattle.bank.specs.Formed.{queuesOk, regsOk, phaseOk}
+use Rattle.model.specs.View.{Tables, View}
+use Rattle.model.specs.Decision.{Effect, Decision, does, _⇒_∣_, first, effect}
+use Rattle.model.specs.Engine.{Step, outcome}
+use Rattle.model.specs.Rings.{Controller, viewRings, settleRings}
+use Rattle.answer.specs.declared.Next.{Next}
+use Rattle.answer.specs.declared.Out.{Out}
+
+-- a bank by its state and its tables, and with a store
+abbrev pub bankWith : State → Tables → Bank
+bankWith st t = record { state = st; flags = t .flags; commands = t .commands; payloads = t .payloads }
+
+abbrev pub tables : List ℕ → List ℕ → List ℕ → Tables
+tables f c p = record { flags = f; commands = c; payloads = p }
+
+abbrev pub tablesOf : Bank → Tables
+tablesOf b = tables (b .flags) (b .commands) (b .payloads)
+
+abbrev pub controller : Bank → List ℕ → Controller
+controller b s = record { bank = b; store = s }
+
+abbrev pub view : State → Tables → List ℕ → View
+view st t s = viewRings (controller (bankWith st t) s)
+
+-- the number of the first test that holds, 0 where none does
+abbrev pub number : Decision → ℕ
+number (does e) = 0
+number (b ⇒ n ∣ d) = cond b n (number d)
+
+-- what code gives, over the tables and the store that it left
+abbrev pub given : Next → Tables → List ℕ → Step Controller
+given y t s = record { answer = y .answer; next = controller (bankWith (y .state) t) s }
+
+abbrev pub givenOut : Out → List ℕ → Step Controller
+givenOut y s = record { answer = y .answer; next = controller (y .bank) s }
+
+abbrev pub refusedNext : State → ℕ → Next
+refusedNext st n = record { state = st; answer = record { value = 0; number = n } }
+
+abbrev pub doneNext : Queues → Regs → Control → Phase → ℕ → ℕ → Next
+doneNext q g c p v n = record { state = record { queues = q; regs = g; control = c; phase = p }; answer = record { value = v; number = n } }
+
+-- a call past the two tests of bank and store, by its decision
+unfoldable pub decided : State → Tables → List ℕ → Decision → Step Controller
+decided st t s d = let l = controller (bankWith st t) s in outcome (first d) (effect d) l (settleRings l (effect d))
+
+-- where no test holds
+abbrev pub served : State → Tables → List ℕ → Effect → Step Controller
+served st t s e = let l = controller (bankWith st t) s in outcome none e l (settleRings l e)
+
+-- a state and a store that passed the two tests, but for the flags
+pub record Open (st : State) (s : List ℕ) : Type 0 where
+  pub queues : queuesOk (st .queues) ≡ true
+  pub regs : regsOk (st .regs) ≡ true
+  pub phase : phaseOk (st .phase) ≡ true
+  pub size : length s ≡ total (st .queues)

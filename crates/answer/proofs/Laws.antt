@@ -2,7 +2,7 @@
 use Prim.Native.Nat.{ℕ}
 use mathlib.Core.Path.{_≡_, refl, ap, sym, _∙_}
 use mathlib.Core.Bool.{Bool, true, false, cond, not, _&&_, false≢true}
-use mathlib.Core.List.{List}
+use mathlib.Core.List.{List, []}
 use mathlib.Core.Option.{Option, none, some}
 use lib.Dec.{eqb}
 use Rattle.bank.specs.declared.State.{State}
@@ -42,6 +42,10 @@ module _ (st : State) (t : Tables) (s : List ℕ) (d : Decision) where
   pub served-by : refusals d ≡ true → number d ≡ 0 → served st t s (effect d) ≡ decided st t s d
   unfolding decided
   served-by r h = let l = controller (bankWith st t) s in sym (ap (λ (k : Option ℕ). outcome k (effect d) l (settleRings l (effect d))) (none-of d r h))
+
+-- tables for a fact that does not hang on them
+abbrev pub noTables : Tables
+noTables = record { flags = []; commands = []; payloads = [] }
 
 pub ready-of : (st : State) (s : List ℕ) → Open st s → Ready (st .queues) s
 ready-of st s o = ready (st .queues) s (o .queues) (o .size)

@@ -1,0 +1,40 @@
+-- `requests::interrupt_number` meets its contract.
+use borrow.Author.Tests.{le-ltb}
+use Rattle.model.specs.Calls.{interrupt}
+use borrow.Author.Needs.{needs}
+use Rattle.requests.proofs.interrupt_number.Statement.{statement}
+use Rattle.requests.proofs.interrupt_number.Tie as tie
+
+stage-of-requires : tie.Need-stage-of-requires
+stage-of-requires c κs = search needs
+
+select-requires : tie.Need-select-requires
+select-requires c κs = search needs
+
+select-requires-2 : tie.Need-select-requires-2
+select-requires-2 c κs = search needs
+
+select-requires-3 : tie.Need-select-requires-3
+select-requires-3 c κs = search needs
+
+select-requires-4 : tie.Need-select-requires-4
+select-requires-4 c κs = search needs
+
+select-requires-5 : tie.Need-select-requires-5
+select-requires-5 c κs = search needs
+
+returns : tie.Need-returns
+unfolding interrupt
+returns c = λ t s address byte h f. rw (c .select5 .ensures, c .before .select4 .ensures, c .before .before .select3 .ensures, c .before .before .before .select2 .ensures, c .before .before .before .before .select .ensures, c .before .before .before .before .before .before .stage-of .ensures, f, le-ltb 127 address h)
+
+pub interrupt-number-spec : {M : Type 1} → statement M
+interrupt-number-spec =
+    tie.close
+    (tie.spec
+    stage-of-requires
+    select-requires
+    select-requires-2
+    select-requires-3
+    select-requires-4
+    select-requires-5
+    returns)

@@ -1,0 +1,47 @@
+-- `transfer::finish_number` meets its contract.
+use Rattle.model.specs.Calls.{finish}
+use borrow.Author.Needs.{needs}
+use Rattle.transfer.proofs.finish_number.Statement.{statement}
+use Rattle.transfer.proofs.finish_number.Tie as tie
+
+stage-of-requires : tie.Need-stage-of-requires
+stage-of-requires c κs = search needs
+
+is-allowed-requires : tie.Need-is-allowed-requires
+is-allowed-requires c κs = search needs
+
+is-padded-requires : tie.Need-is-padded-requires
+is-padded-requires c κs = search needs
+
+select-requires : tie.Need-select-requires
+select-requires c κs = search needs
+
+select-requires-2 : tie.Need-select-requires-2
+select-requires-2 c κs = search needs
+
+select-requires-3 : tie.Need-select-requires-3
+select-requires-3 c κs = search needs
+
+select-requires-4 : tie.Need-select-requires-4
+select-requires-4 c κs = search needs
+
+select-requires-5 : tie.Need-select-requires-5
+select-requires-5 c κs = search needs
+
+returns : tie.Need-returns
+unfolding finish
+returns c = λ t s. rw (c .select5 .ensures, c .before .select4 .ensures, c .before .before .select3 .ensures, c .before .before .before .select2 .ensures, c .before .before .before .before .select .ensures, c .before .before .before .before .before .before .before .before .before .is-padded .ensures, c .before .before .before .before .before .before .before .before .before .before .is-allowed .ensures, c .before .before .before .before .before .before .before .before .before .before .before .stage-of .ensures)
+
+pub finish-number-spec : {M : Type 1} → statement M
+finish-number-spec =
+    tie.close
+    (tie.spec
+    stage-of-requires
+    is-allowed-requires
+    is-padded-requires
+    select-requires
+    select-requires-2
+    select-requires-3
+    select-requires-4
+    select-requires-5
+    returns)

@@ -1,0 +1,225 @@
+// The start and the end of a transfer, behind the two tests of bank and store: a layer, no interface.
+ghost use mathlib.Core.Path.{_≡_};
+ghost use mathlib.Core.Bool.{cond, _||_};
+ghost use Prim.Native.Nat.{ℕ, _≤_, _<_};
+ghost use mathlib.Core.List.{List};
+ghost use lib.ListN.{getD};
+ghost use Rattle.bank.specs.Phases.{broadcast};
+ghost use Rattle.model.specs.View.{Tables, bit, bits};
+ghost use Rattle.model.specs.Commands.{kindOf, isEntdaa, opened, begun, receiptWord};
+ghost use Rattle.model.specs.Calls.{start, finish, endsEntdaa, endsOther, allowed, padded, receipted};
+ghost use Rattle.answer.specs.Given.{view, number, given, decided, tables, Open};
+ghost use Rattle.transfer.specs.Word.{commandOf};
+use answer::Next;
+use bank::Control;
+use bank::Kind;
+use bank::Phase;
+use bank::State;
+use bank::Transfer;
+use bank::phases;
+use ring::Bytes;
+
+// One of two answers, by a test.
+fn choose(test: bool, yes: bool, no: bool) -> bool
+    ensures { λ r. ⌜ r ≡ cond test yes no ⌝ }
+{
+    if test { yes } else { no }
+}
+
+// ── Start ──────────────────────────────────────────────────────────────────────────────────────────────────────
+
+// The kind of the command with first word `w` and, where it has two, second word `x`.
+fn kind_of(two: bool, w: u32, x: u32) -> Kind
+    ensures { λ k. ⌜ k ≡ kindOf (commandOf two w x) ⌝ }
+{
+    if !two {
+        return Kind::Private;
+    }
+    if x / 128 % 2 == 1 {
+        return Kind::Direct;
+    }
+    Kind::Broadcast
+}
+
+fn is_entdaa(two: bool, w: u32, x: u32) -> bool
+    ensures { λ r. ⌜ r ≡ isEntdaa (commandOf two w x) ⌝ }
+{
+    two & (x % 256 == 7)
+}
+
+// The transfer that a command opens.
+fn opened_by(two: bool, w: u32, x: u32, attached: bool) -> Transfer
+    ensures { λ t. ⌜ t ≡ opened (commandOf two w x) attached ⌝ }
+{
+    let k = kind_of(two, w, x);
+    let n = bank::select(is_entdaa(two, w, x), 0, w / 256 % 4096);
+    Transfer {
+        kind: k,
+        header: w / 0x200000 % 2 == 1,
+        length: Bytes(n),
+        moved: Bytes(0),
+        attached: attached,
+        part: 0,
+    }
+}
+
+fn begun_by(two: bool, w: u32, x: u32, attached: bool) -> Phase
+    ensures { λ p. ⌜ p ≡ begun (commandOf two w x) attached ⌝ }
+{
+    let t = opened_by(two, w, x, attached);
+    if is_entdaa(two, w, x) {
+        return Phase::Unrequested(t);
+    }
+    if w / 1 % 2 == 1 {
+        return Phase::Reading(t);
+    }
+    Phase::Writing(t)
+}
+
+// Whether the device of a command is attached now; a broadcast has none.
+fn is_attached(flags: &[u8; 128], k: Kind, w: u32) -> bool
+    ensures { λ r. ⌜ r ≡ (broadcast k || bit 0 (getD (now (flags .entry)) (bits 7 1 w) 0)) ⌝ }
+{
+    let at = (w / 2 % 128) as usize;
+    let f = flags[at];
+    phases::is_broadcast(k) | (f / 1 % 2 == 1)
+}
+
+// The number of a start, 0 where none of its tests holds: `w` and `x` are the first words of CMD.
+fn start_number(st: State, w: u32, x: u32) -> u32
+    ensures { λ n. ⌜ ((t : Tables) (s : List ℕ) → w ≡ view st t s .queues .cmd .first → x ≡ view st t s .queues .cmd .second → n ≡ number (start (view st t s))) ⌝ }
+{
+    let p = st.phase;
+    let at = phases::stage_of(p);
+    let two = w / 0x400000 % 2 == 1;
+    let level = st.queues.cmd.level.0;
+    let waits = choose(level == 0, false, choose(level == 1, !two, true));
+    let blocked = is_entdaa(two, w, x) & !(st.queues.sdo.level.0 == 0);
+    let n = bank::select(blocked, 15, 0);
+    let n = bank::select(!waits, 9, n);
+    let n = bank::select(st.regs.ops / 1 % 2 == 1, 8, n);
+    let n = bank::select(!(at == phases::IDLE), 6, n);
+    bank::select(st.control.held, 5, n)
+}
+
+// The first command of CMD starts.
+pub fn start(st: State, flags: &[u8; 128], store: &[u32]) -> Next
+    requires { ⌜ Open st (now store) ⌝ }
+    ensures { λ y. ⌜ ((c p : List ℕ) → (let t = tables (now (flags .entry)) c p in given y t (now (store .entry)) ≡ decided st t (now (store .entry)) (start (view st t (now (store .entry)))))) ⌝ }
+{
+    let w = answer::cmd_word(st.queues, store, 0);
+    let x = answer::cmd_word(st.queues, store, 1);
+    let n = start_number(st, w, x);
+    if n != 0 {
+        return answer::refuse(st, n);
+    }
+    let two = w / 0x400000 % 2 == 1;
+    let k = kind_of(two, w, x);
+    let a = is_attached(flags, k, w);
+    let p = begun_by(two, w, x, a);
+    let mut q = st.queues;
+    q.cmd = answer::take(st.queues.cmd, bank::select(two, 2, 1));
+    let g = st.regs;
+    let c = st.control;
+    answer::done(q, g, c, p, w, 0)
+}
+
+// ── Finish ─────────────────────────────────────────────────────────────────────────────────────────────────────
+
+fn ends_entdaa(p: Phase, code: u8) -> bool
+    ensures { λ r. ⌜ r ≡ endsEntdaa p code ⌝ }
+{
+    let at = phases::stage_of(p);
+    ((code == 0) & !(at == phases::REQUESTED)) | ((code == 4) & (at == phases::UNREQUESTED))
+}
+
+fn ends_other(p: Phase, code: u8) -> bool
+    ensures { λ r. ⌜ r ≡ endsOther p code ⌝ }
+{
+    let t = phases::transfer_of(p);
+    let k = t.kind;
+    let reads = phases::stage_of(p) == phases::READING;
+    let nothing = t.moved.0 == 0;
+    let everything = t.moved.0 == t.length.0;
+    let ccc = !phases::is_private(k);
+    let wide = phases::is_broadcast(k);
+    ((code == 4) & nothing & (ccc | t.header))
+        | ((code == 6) & nothing & !wide)
+        | ((code == 0) & (everything | (reads & !ccc)))
+        | ((code == 1) & reads & ccc & !everything)
+}
+
+fn is_allowed(p: Phase, code: u8) -> bool
+    ensures { λ r. ⌜ r ≡ allowed p code ⌝ }
+{
+    let assigns = phases::UNREQUESTED <= phases::stage_of(p);
+    let rest = choose(assigns, ends_entdaa(p, code), ends_other(p, code));
+    choose(phases::is_unattached(p), code == 8, rest)
+}
+
+// Whether a part-filled word is left to push.
+fn is_padded(p: Phase) -> bool
+    ensures { λ r. ⌜ r ≡ padded p ⌝ }
+{
+    let t = phases::transfer_of(p);
+    let words = ring::words_for(t.moved);
+    (phases::stage_of(p) == phases::READING) & (t.moved.0 / 4 < words.0)
+}
+
+// The number of a finish, 0 where none of its tests holds.
+fn finish_number(st: State, code: u8) -> u32
+    ensures { λ n. ⌜ ((t : Tables) (s : List ℕ) → n ≡ number (finish (view st t s) code)) ⌝ }
+{
+    let p = st.phase;
+    let at = phases::stage_of(p);
+    let ends = is_allowed(p, code);
+    let pads = is_padded(p);
+    let cmdr = st.queues.cmdr;
+    let sdi = st.queues.sdi;
+    let full = (cmdr.cap.0 <= cmdr.level.0) | (pads & (sdi.cap.0 <= sdi.level.0));
+    let n = bank::select(full, 13, 0);
+    let n = bank::select(!ends, 14, n);
+    let n = bank::select(at == phases::IDLE, 7, n);
+    let n = bank::select(st.control.held, 5, n);
+    bank::select(15 < code, 18, n)
+}
+
+fn receipt(code: u8, moved: u32, sync: u8) -> u32
+    requires { ⌜ (code ≤ 15) × (moved < 4096) ⌝ }
+    ensures { λ r. ⌜ r ≡ receiptWord code moved sync ⌝ }
+{
+    code as u32 * 0x100000 + moved * 256 + sync as u32
+}
+
+// A receipt more is queued.
+fn counted(c: Control) -> Control
+    ensures { λ r. ⌜ r ≡ receipted c ⌝ }
+{
+    let mut next = c;
+    next.sync = std::num::wrapping_add_u8(c.sync, 1);
+    next.cmdrpending = true;
+    next
+}
+
+// The open transfer ends with a code.
+pub fn finish(st: State, store: &mut [u32], code: u8) -> Next
+    requires { ⌜ Open st (now store) ⌝ }
+    ensures { λ y. ⌜ ((t : Tables) → given y t (now (store .exit)) ≡ decided st t (now (store .entry)) (finish (view st t (now (store .entry))) code)) ⌝ }
+{
+    let n = finish_number(st, code);
+    if n != 0 {
+        return answer::refuse(st, n);
+    }
+    let p = st.phase;
+    let t = phases::transfer_of(p);
+    let pads = is_padded(p);
+    let r = receipt(code, t.moved.0, st.control.sync);
+    let one = answer::cmdr_at(st.queues);
+    let two = answer::sdi_at(st.queues);
+    let mut q = st.queues;
+    q.cmdr = answer::push_if(st.queues.cmdr, one, store, true, r);
+    q.sdi = answer::push_if(st.queues.sdi, two, store, pads, t.part);
+    let g = st.regs;
+    let c = counted(st.control);
+    answer::done(q, g, c, Phase::Idle, r, 0)
+}

@@ -2,7 +2,7 @@
 ghost use mathlib.Core.Path.{_≡_};
 ghost use mathlib.Core.Bool.{cond};
 ghost use Prim.Native.Nat.{_+_};
-ghost use Rattle.bank.specs.SetUp.{sizeOk, total};
+ghost use Rattle.bank.specs.SetUp.{sizeOk, cleared, total};
 use ring::Bytes;
 use ring::Ring;
 
@@ -112,6 +112,20 @@ pub fn size_ok(least: u32, cap: u32, mark: u32) -> bool
     ensures { λ b. ⌜ b ≡ sizeOk least cap mark ⌝ }
 {
     (least <= cap) & (cap <= 1024) & (mark <= cap)
+}
+
+// A control with its syncs and pending bits 0.
+pub fn cleared_control(held: bool) -> Control
+    ensures { λ r. ⌜ r ≡ cleared held ⌝ }
+{
+    Control {
+        held: held,
+        sync: 0,
+        ibisync: 0,
+        cmdrpending: false,
+        ibipending: false,
+        daapending: false,
+    }
 }
 
 // One of two numbers, by a test.

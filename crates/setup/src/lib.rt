@@ -1,9 +1,8 @@
 // Set-up: the bank that five capacities, five watermarks and an ID give.
 ghost use mathlib.Core.Path.{_≡_};
-ghost use Rattle.bank.specs.SetUp.{sizesOk, ringOf, queuesOf, cleared, bankOf, refused, setUp};
+ghost use Rattle.bank.specs.SetUp.{sizesOk, ringOf, queuesOf, bankOf, refused, setUp};
 use bank::Answer;
 use bank::Bank;
-use bank::Control;
 use bank::Phase;
 use bank::Queues;
 use bank::Regs;
@@ -46,25 +45,11 @@ fn fresh_queues(caps: Sizes, marks: Sizes) -> Queues
     }
 }
 
-// Syncs and pending bits 0.
-pub fn cleared_control(held: bool) -> Control
-    ensures { λ r. ⌜ r ≡ cleared held ⌝ }
-{
-    Control {
-        held: held,
-        sync: 0,
-        ibisync: 0,
-        cmdrpending: false,
-        ibipending: false,
-        daapending: false,
-    }
-}
-
 fn fresh_bank(caps: Sizes, marks: Sizes, held: bool, id: u8) -> Bank
     ensures { λ r. ⌜ r ≡ bankOf caps marks held id ⌝ }
 {
     let q = fresh_queues(caps, marks);
-    let c = cleared_control(held);
+    let c = bank::cleared_control(held);
     let g = Regs {
         id: id,
         scratch: 0,

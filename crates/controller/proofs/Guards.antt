@@ -1,0 +1,51 @@
+-- A call that the two tests of bank and store refuse, or pass.
+use Prim.Native.Nat.{ℕ}
+use native.Mathlib.Omega.{arith}
+use mathlib.Core.Path.{_≡_, refl, ap, sym, _∙_}
+use mathlib.Core.Bool.{Bool, true, false, not}
+use mathlib.Core.List.{List}
+use mathlib.Core.Option.{Option, none, some}
+use lib.Dec.{eqb}
+use lib.ListN.{length}
+use borrow.Author.Tests.{eqb-true, eq-eqb}
+use Rattle.bank.specs.declared.Bank.{Bank}
+use Rattle.bank.specs.SetUp.{total}
+use Rattle.bank.specs.Formed.{wellFormed}
+use Rattle.bank.proofs.Laws.{formed-of}
+use Rattle.model.specs.declared.Call.{Call}
+use Rattle.model.specs.Decision.{Decision, _⇒_∣_, first, effect}
+use Rattle.model.specs.Calls.{decide}
+use Rattle.model.specs.Engine.{step, outcome}
+use Rattle.model.specs.Rings.{rings, guardRings, settleRings}
+use Rattle.answer.specs.Given.{controller, tablesOf, view, givenOut, decided, Open}
+use Rattle.controller.specs.Faults.{faultBy, faultNumber, refusedOut}
+
+refused : (a b : Bool) (d : Decision) (n : ℕ) → (n ≡ 0 → ⊥) → n ≡ faultBy a b → first (not a ⇒ 21 ∣ not b ⇒ 22 ∣ d) ≡ some n
+refused true true d n z e = absurd (z e)
+refused true false d n z e = ap some (sym e)
+refused false b d n z e = ap some (sym e)
+
+both : (a b : Bool) → faultBy a b ≡ 0 → (a ≡ true) × (b ≡ true)
+both true true e = (refl, refl)
+both true false e = absurd (omega arith)
+both false b e = absurd (omega arith)
+
+module _ (b : Bank) (s : List ℕ) (c : Call) where
+  -- the two tests refuse
+  pub faulty : (n : ℕ) → (n ≡ 0 → ⊥) → n ≡ faultNumber b (length s) → givenOut (refusedOut b n) s ≡ step rings (controller b s) c
+  unfolding step guardRings
+  faulty n z e =
+      let d = decide (view (b .state) (tablesOf b) s) c in
+      let l = controller b s in
+      sym (ap (λ (k : Option ℕ). outcome k (effect d) l (settleRings l (effect d))) (refused (wellFormed b) (eqb (length s) (total (b .state .queues))) d n z e))
+
+  -- they pass: the step is the decision
+  pub sound : faultNumber b (length s) ≡ 0 → decided (b .state) (tablesOf b) s (decide (view (b .state) (tablesOf b) s) c) ≡ step rings (controller b s) c
+  unfolding step guardRings decided
+  sound e = let t = both (wellFormed b) (eqb (length s) (total (b .state .queues))) e in rw (t .0, t .1)
+
+pub opens : (b : Bank) (s : List ℕ) → faultNumber b (length s) ≡ 0 → Open (b .state) s
+opens b s e =
+    let t = both (wellFormed b) (eqb (length s) (total (b .state .queues))) e in
+    let f = formed-of b (t .0) in
+    record { queues = f .queues; regs = f .regs; phase = f .phase; size = eqb-true (length s) (total (b .state .queues)) (t .1) }

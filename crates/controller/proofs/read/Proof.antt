@@ -1,0 +1,38 @@
+use borrow.Author.Needs.{needs}
+use Rattle.controller.proofs.read.Statement.{statement}
+use Rattle.controller.proofs.read.Tie as tie
+use Rattle.controller.proofs.read.Reads as reads
+use Rattle.controller.proofs.read.Lts as lts
+use Rattle.controller.proofs.fault.Reads as fault-reads
+use Rattle.controller.proofs.refuse.Reads as refuse-reads
+use Rattle.controller.proofs.with_state.Reads as with-state-reads
+use Rattle.read.proofs.read.Reads as read-reads
+
+-- src/lib.rt:74:9
+fault-requires : tie.Need-fault-requires
+fault-requires c κs = search needs
+
+-- src/lib.rt:76:9
+refuse-requires : tie.Need-refuse-requires
+refuse-requires c κs = search needs
+
+-- src/lib.rt:76:9
+returns : tie.Need-returns
+returns c = ?
+
+-- src/lib.rt:81:9
+read-requires : tie.Need-read-requires
+read-requires c κs = ?
+
+-- src/lib.rt:82:5
+with-state-requires : tie.Need-with-state-requires
+with-state-requires c κs = search needs
+
+-- src/lib.rt:71:1
+returns-2 : tie.Need-returns-2
+returns-2 c = ?
+
+pub read-spec : {M : Type 1} → statement M
+read-spec =
+    tie.close
+    (tie.spec fault-requires refuse-requires returns read-requires with-state-requires returns-2)

@@ -1,0 +1,49 @@
+use borrow.Author.Needs.{needs}
+use Rattle.controller.proofs.receive.Statement.{statement}
+use Rattle.controller.proofs.receive.Tie as tie
+use Rattle.controller.proofs.receive.Reads as reads
+use Rattle.controller.proofs.receive.Lts as lts
+use Rattle.controller.proofs.fault.Reads as fault-reads
+use Rattle.controller.proofs.refuse.Reads as refuse-reads
+use Rattle.controller.proofs.with_state.Reads as with-state-reads
+use Rattle.payload.proofs.receive.Reads as receive-reads
+
+-- src/lib.rt:129:9
+fault-requires : tie.Need-fault-requires
+fault-requires c κs = search needs
+
+-- src/lib.rt:131:9
+refuse-requires : tie.Need-refuse-requires
+refuse-requires c κs = search needs
+
+-- src/lib.rt:131:9
+returns : tie.Need-returns
+returns c = ?
+
+-- src/lib.rt:133:9
+receive-requires : tie.Need-receive-requires
+receive-requires c κs = ?
+
+-- src/lib.rt:134:5
+with-state-requires : tie.Need-with-state-requires
+with-state-requires c κs = search needs
+
+-- src/lib.rt:126:1
+same-length : tie.Need-same-length
+same-length c = search needs
+
+-- src/lib.rt:126:1
+returns-2 : tie.Need-returns-2
+returns-2 c = ?
+
+pub receive-spec : {M : Type 1} → statement M
+receive-spec =
+    tie.close
+    (tie.spec
+    fault-requires
+    refuse-requires
+    returns
+    receive-requires
+    with-state-requires
+    same-length
+    returns-2)

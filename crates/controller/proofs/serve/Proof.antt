@@ -1,0 +1,199 @@
+use borrow.Author.Needs.{needs}
+use Rattle.controller.proofs.serve.Statement.{statement}
+use Rattle.controller.proofs.serve.Tie as tie
+use Rattle.controller.proofs.serve.Reads as reads
+use Rattle.controller.proofs.serve.Lts as lts
+use Rattle.payload.proofs.receive.Reads as receive-reads
+use Rattle.payload.proofs.send.Reads as send-reads
+use Rattle.read.proofs.read.Reads as read-reads
+use Rattle.requests.proofs.interrupt.Reads as interrupt-reads
+use Rattle.requests.proofs.request.Reads as request-reads
+use Rattle.requests.proofs.take_address.Reads as take-address-reads
+use Rattle.transfer.proofs.finish.Reads as finish-reads
+use Rattle.transfer.proofs.start.Reads as start-reads
+use Rattle.write.proofs.write.Reads as write-reads
+
+-- src/lib.rt:199:20
+enum-known-call : tie.Need-enum-known-call
+enum-known-call c = search needs
+
+-- src/lib.rt:199:31
+read-requires : tie.Need-read-requires
+read-requires c κs = search needs
+
+-- src/lib.rt:200:21
+enum-known-call-2 : tie.Need-enum-known-call-2
+enum-known-call-2 c = search needs
+
+-- src/lib.rt:200:35
+write-requires : tie.Need-write-requires
+write-requires c κs = search needs
+
+-- src/lib.rt:201:44
+enum-told : tie.Need-enum-told
+enum-told c = search needs
+
+-- src/lib.rt:201:24
+start-requires : tie.Need-start-requires
+start-requires c κs = search needs
+
+-- src/lib.rt:202:41
+enum-told-2 : tie.Need-enum-told-2
+enum-told-2 c = search needs
+
+-- src/lib.rt:202:23
+send-requires : tie.Need-send-requires
+send-requires c κs = search needs
+
+-- src/lib.rt:203:23
+enum-known-call-3 : tie.Need-enum-known-call-3
+enum-known-call-3 c = search needs
+
+-- src/lib.rt:203:32
+receive-requires : tie.Need-receive-requires
+receive-requires c κs = search needs
+
+-- src/lib.rt:204:22
+enum-known-call-4 : tie.Need-enum-known-call-4
+enum-known-call-4 c = search needs
+
+-- src/lib.rt:204:31
+finish-requires : tie.Need-finish-requires
+finish-requires c κs = search needs
+
+-- src/lib.rt:205:25
+enum-known-call-5 : tie.Need-enum-known-call-5
+enum-known-call-5 c = search needs
+
+-- src/lib.rt:205:43
+interrupt-requires : tie.Need-interrupt-requires
+interrupt-requires c κs = search needs
+
+-- src/lib.rt:206:23
+enum-known-call-6 : tie.Need-enum-known-call-6
+enum-known-call-6 c = search needs
+
+-- src/lib.rt:206:32
+request-requires : tie.Need-request-requires
+request-requires c κs = search needs
+
+-- src/lib.rt:207:50
+enum-told-3 : tie.Need-enum-told-3
+enum-told-3 c = search needs
+
+-- src/lib.rt:207:23
+take-address-requires : tie.Need-take-address-requires
+take-address-requires c κs = search needs
+
+-- src/lib.rt:187:1
+same-length : tie.Need-same-length
+same-length c = search needs
+
+-- src/lib.rt:187:1
+returns : tie.Need-returns
+returns c = ?
+
+-- src/lib.rt:187:1
+same-length-2 : tie.Need-same-length-2
+same-length-2 c = search needs
+
+-- src/lib.rt:187:1
+returns-2 : tie.Need-returns-2
+returns-2 c = ?
+
+-- src/lib.rt:187:1
+same-length-3 : tie.Need-same-length-3
+same-length-3 c = search needs
+
+-- src/lib.rt:187:1
+returns-3 : tie.Need-returns-3
+returns-3 c = ?
+
+-- src/lib.rt:187:1
+same-length-4 : tie.Need-same-length-4
+same-length-4 c = search needs
+
+-- src/lib.rt:187:1
+returns-4 : tie.Need-returns-4
+returns-4 c = ?
+
+-- src/lib.rt:187:1
+same-length-5 : tie.Need-same-length-5
+same-length-5 c = search needs
+
+-- src/lib.rt:187:1
+returns-5 : tie.Need-returns-5
+returns-5 c = ?
+
+-- src/lib.rt:187:1
+same-length-6 : tie.Need-same-length-6
+same-length-6 c = search needs
+
+-- src/lib.rt:187:1
+returns-6 : tie.Need-returns-6
+returns-6 c = ?
+
+-- src/lib.rt:187:1
+same-length-7 : tie.Need-same-length-7
+same-length-7 c = search needs
+
+-- src/lib.rt:187:1
+returns-7 : tie.Need-returns-7
+returns-7 c = ?
+
+-- src/lib.rt:187:1
+same-length-8 : tie.Need-same-length-8
+same-length-8 c = search needs
+
+-- src/lib.rt:187:1
+returns-8 : tie.Need-returns-8
+returns-8 c = ?
+
+-- src/lib.rt:187:1
+same-length-9 : tie.Need-same-length-9
+same-length-9 c = search needs
+
+-- src/lib.rt:187:1
+returns-9 : tie.Need-returns-9
+returns-9 c = ?
+
+pub serve-spec : {M : Type 1} → statement M
+serve-spec =
+    tie.close
+    (tie.spec
+    enum-known-call
+    read-requires
+    enum-known-call-2
+    write-requires
+    enum-told
+    start-requires
+    enum-told-2
+    send-requires
+    enum-known-call-3
+    receive-requires
+    enum-known-call-4
+    finish-requires
+    enum-known-call-5
+    interrupt-requires
+    enum-known-call-6
+    request-requires
+    enum-told-3
+    take-address-requires
+    same-length
+    returns
+    same-length-2
+    returns-2
+    same-length-3
+    returns-3
+    same-length-4
+    returns-4
+    same-length-5
+    returns-5
+    same-length-6
+    returns-6
+    same-length-7
+    returns-7
+    same-length-8
+    returns-8
+    same-length-9
+    returns-9)

@@ -1,0 +1,44 @@
+use borrow.Author.Needs.{needs}
+use Rattle.controller.proofs.take_address.Statement.{statement}
+use Rattle.controller.proofs.take_address.Tie as tie
+use Rattle.controller.proofs.take_address.Reads as reads
+use Rattle.controller.proofs.take_address.Lts as lts
+use Rattle.controller.proofs.fault.Reads as fault-reads
+use Rattle.controller.proofs.refuse.Reads as refuse-reads
+use Rattle.controller.proofs.with_state.Reads as with-state-reads
+use Rattle.requests.proofs.take_address.Reads as take-address-reads
+
+-- src/lib.rt:178:9
+fault-requires : tie.Need-fault-requires
+fault-requires c κs = search needs
+
+-- src/lib.rt:180:9
+refuse-requires : tie.Need-refuse-requires
+refuse-requires c κs = search needs
+
+-- src/lib.rt:180:9
+returns : tie.Need-returns
+returns c = ?
+
+-- src/lib.rt:182:9
+take-address-requires : tie.Need-take-address-requires
+take-address-requires c κs = ?
+
+-- src/lib.rt:183:5
+with-state-requires : tie.Need-with-state-requires
+with-state-requires c κs = search needs
+
+-- src/lib.rt:175:1
+returns-2 : tie.Need-returns-2
+returns-2 c = ?
+
+pub take-address-spec : {M : Type 1} → statement M
+take-address-spec =
+    tie.close
+    (tie.spec
+    fault-requires
+    refuse-requires
+    returns
+    take-address-requires
+    with-state-requires
+    returns-2)

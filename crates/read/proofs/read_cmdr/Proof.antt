@@ -1,0 +1,33 @@
+-- `read::read_cmdr` meets its contract.
+use Rattle.read.proofs.Rows.{empty-row, taken-row}
+use Rattle.model.specs.Rings.{onRing, onStore}
+use Rattle.model.specs.View.{Cmdr}
+use Rattle.registers.specs.declared.Register.the-variants.{CmdrFifo}
+use mathlib.Core.Path.{refl}
+use borrow.Author.Needs.{needs}
+use Rattle.read.proofs.read_cmdr.Statement.{statement}
+use Rattle.read.proofs.read_cmdr.Tie as tie
+
+refuse-requires : tie.Need-refuse-requires
+refuse-requires c κs = search needs
+
+returns : tie.Need-returns
+returns c = λ t. let a = c .before .before .before .before .before .args in rw (c .refuse .ensures) (empty-row (a .st) t (a .store .now) CmdrFifo Cmdr refl (c .before .if1 .taken))
+
+take-requires : tie.Need-take-requires
+take-requires c κs = search needs
+
+cmdr-first-requires : tie.Need-cmdr-first-requires
+cmdr-first-requires c κs = search needs
+
+give-requires : tie.Need-give-requires
+give-requires c κs = search needs
+
+returns-2 : tie.Need-returns-2
+unfolding onRing onStore
+returns-2 c = λ t. let a = c .before .before .before .before .before .before .before .before .before .before .args in rw (c .give .ensures, c .before .cmdr-first .ensures, c .before .before .before .before .before .take .ensures) (taken-row (a .st) t (a .store .now) CmdrFifo Cmdr refl (c .before .before .before .before .before .before .if1 .left))
+
+pub read-cmdr-spec : {M : Type 1} → statement M
+read-cmdr-spec =
+    tie.close
+    (tie.spec refuse-requires returns take-requires cmdr-first-requires give-requires returns-2)

@@ -1,0 +1,318 @@
+-- `write::write` meets its contract.
+use Rattle.answer.proofs.Laws.{ready-of}
+use Rattle.registers.specs.declared.Register.the-variants.{Version, Id, IrqSource, CmdRoom, CmdrLevel, SdoRoom, SdiLevel, IbiLevel, CmdrFifo, SdiFifo, IbiFifo, FifoStatus, Unmapped}
+use Rattle.write.proofs.Rows.{refused-row, stands}
+use native.Mathlib.Omega.{arith}
+use mathlib.Core.Path.{refl}
+use borrow.Author.Needs.{needs}
+use Rattle.write.proofs.write.Statement.{statement}
+use Rattle.write.proofs.write.Tie as tie
+
+register-at-requires : tie.Need-register-at-requires
+register-at-requires c κs = search needs
+
+enum-told : tie.Need-enum-told
+enum-told c = search needs
+
+refuse-requires : tie.Need-refuse-requires
+refuse-requires c κs = search needs
+
+enum-told-2 : tie.Need-enum-told-2
+enum-told-2 c = search needs
+
+refuse-requires-2 : tie.Need-refuse-requires-2
+refuse-requires-2 c κs = search needs
+
+enum-told-3 : tie.Need-enum-told-3
+enum-told-3 c = search needs
+
+write-scratch-requires : tie.Need-write-scratch-requires
+write-scratch-requires c κs = search needs
+
+enum-told-4 : tie.Need-enum-told-4
+enum-told-4 c = search needs
+
+write-enable-requires : tie.Need-write-enable-requires
+write-enable-requires c κs = search needs
+
+enum-told-5 : tie.Need-enum-told-5
+enum-told-5 c = search needs
+
+write-mask-requires : tie.Need-write-mask-requires
+write-mask-requires c κs = search needs
+
+enum-told-6 : tie.Need-enum-told-6
+enum-told-6 c = search needs
+
+write-pending-requires : tie.Need-write-pending-requires
+write-pending-requires c κs = search needs
+
+enum-told-7 : tie.Need-enum-told-7
+enum-told-7 c = search needs
+
+refuse-requires-3 : tie.Need-refuse-requires-3
+refuse-requires-3 c κs = search needs
+
+enum-told-8 : tie.Need-enum-told-8
+enum-told-8 c = search needs
+
+refuse-requires-4 : tie.Need-refuse-requires-4
+refuse-requires-4 c κs = search needs
+
+enum-told-9 : tie.Need-enum-told-9
+enum-told-9 c = search needs
+
+refuse-requires-5 : tie.Need-refuse-requires-5
+refuse-requires-5 c κs = search needs
+
+enum-told-10 : tie.Need-enum-told-10
+enum-told-10 c = search needs
+
+refuse-requires-6 : tie.Need-refuse-requires-6
+refuse-requires-6 c κs = search needs
+
+enum-told-11 : tie.Need-enum-told-11
+enum-told-11 c = search needs
+
+refuse-requires-7 : tie.Need-refuse-requires-7
+refuse-requires-7 c κs = search needs
+
+enum-told-12 : tie.Need-enum-told-12
+enum-told-12 c = search needs
+
+refuse-requires-8 : tie.Need-refuse-requires-8
+refuse-requires-8 c κs = search needs
+
+enum-told-13 : tie.Need-enum-told-13
+enum-told-13 c = search needs
+
+write-cmd-requires : tie.Need-write-cmd-requires
+write-cmd-requires c κs =
+    let a = c .before .before .before .before .before .args in
+    ready-of (a .st) (a .store .now) (c .before .before .before .before .before .pre)
+
+enum-told-14 : tie.Need-enum-told-14
+enum-told-14 c = search needs
+
+refuse-requires-9 : tie.Need-refuse-requires-9
+refuse-requires-9 c κs = search needs
+
+enum-told-15 : tie.Need-enum-told-15
+enum-told-15 c = search needs
+
+write-sdo-requires : tie.Need-write-sdo-requires
+write-sdo-requires c κs =
+    let a = c .before .before .before .before .before .args in
+    ready-of (a .st) (a .store .now) (c .before .before .before .before .before .pre)
+
+enum-told-16 : tie.Need-enum-told-16
+enum-told-16 c = search needs
+
+refuse-requires-10 : tie.Need-refuse-requires-10
+refuse-requires-10 c κs = search needs
+
+enum-told-17 : tie.Need-enum-told-17
+enum-told-17 c = search needs
+
+refuse-requires-11 : tie.Need-refuse-requires-11
+refuse-requires-11 c κs = search needs
+
+enum-told-18 : tie.Need-enum-told-18
+enum-told-18 c = search needs
+
+refuse-requires-12 : tie.Need-refuse-requires-12
+refuse-requires-12 c κs = search needs
+
+enum-told-19 : tie.Need-enum-told-19
+enum-told-19 c = search needs
+
+write-ops-requires : tie.Need-write-ops-requires
+write-ops-requires c κs = search needs
+
+enum-told-20 : tie.Need-enum-told-20
+enum-told-20 c = search needs
+
+write-config-requires : tie.Need-write-config-requires
+write-config-requires c κs = search needs
+
+enum-told-21 : tie.Need-enum-told-21
+enum-told-21 c = search needs
+
+write-device-requires : tie.Need-write-device-requires
+write-device-requires c κs = search needs
+
+enum-known-r : tie.Need-enum-known-r
+enum-known-r c = search needs
+
+write-offload-cmd-requires : tie.Need-write-offload-cmd-requires
+write-offload-cmd-requires c κs = search needs
+
+enum-known-r-2 : tie.Need-enum-known-r-2
+enum-known-r-2 c = search needs
+
+write-offload-sdo-requires : tie.Need-write-offload-sdo-requires
+write-offload-sdo-requires c κs = search needs
+
+enum-told-22 : tie.Need-enum-told-22
+enum-told-22 c = search needs
+
+refuse-requires-13 : tie.Need-refuse-requires-13
+refuse-requires-13 c κs = search needs
+
+returns : tie.Need-returns
+returns c = stands _ _ _ _ (c .before .before .before .register-at .ensures) (c .before .enum-told .given .1) (refused-row _ _ _ Version _ 2 (c .refuse .ensures) (λ z. omega arith) refl)
+
+returns-2 : tie.Need-returns-2
+returns-2 c = stands _ _ _ _ (c .before .before .before .register-at .ensures) (c .before .enum-told2 .given .1) (refused-row _ _ _ Id _ 2 (c .refuse2 .ensures) (λ z. omega arith) refl)
+
+returns-3 : tie.Need-returns-3
+returns-3 c = stands _ _ _ _ (c .before .before .before .register-at .ensures) (c .before .enum-told3 .given .1) (c .write-scratch .ensures _ _)
+
+returns-4 : tie.Need-returns-4
+returns-4 c = stands _ _ _ _ (c .before .before .before .register-at .ensures) (c .before .enum-told4 .given .1) (c .write-enable .ensures _ _)
+
+returns-5 : tie.Need-returns-5
+returns-5 c = stands _ _ _ _ (c .before .before .before .register-at .ensures) (c .before .enum-told5 .given .1) (c .write-mask .ensures _ _)
+
+returns-6 : tie.Need-returns-6
+returns-6 c = stands _ _ _ _ (c .before .before .before .register-at .ensures) (c .before .enum-told6 .given .1) (c .write-pending .ensures _ _)
+
+returns-7 : tie.Need-returns-7
+returns-7 c = stands _ _ _ _ (c .before .before .before .register-at .ensures) (c .before .enum-told7 .given .1) (refused-row _ _ _ IrqSource _ 2 (c .refuse3 .ensures) (λ z. omega arith) refl)
+
+returns-8 : tie.Need-returns-8
+returns-8 c = stands _ _ _ _ (c .before .before .before .register-at .ensures) (c .before .enum-told8 .given .1) (refused-row _ _ _ CmdRoom _ 2 (c .refuse4 .ensures) (λ z. omega arith) refl)
+
+returns-9 : tie.Need-returns-9
+returns-9 c = stands _ _ _ _ (c .before .before .before .register-at .ensures) (c .before .enum-told9 .given .1) (refused-row _ _ _ CmdrLevel _ 2 (c .refuse5 .ensures) (λ z. omega arith) refl)
+
+returns-10 : tie.Need-returns-10
+returns-10 c = stands _ _ _ _ (c .before .before .before .register-at .ensures) (c .before .enum-told10 .given .1) (refused-row _ _ _ SdoRoom _ 2 (c .refuse6 .ensures) (λ z. omega arith) refl)
+
+returns-11 : tie.Need-returns-11
+returns-11 c = stands _ _ _ _ (c .before .before .before .register-at .ensures) (c .before .enum-told11 .given .1) (refused-row _ _ _ SdiLevel _ 2 (c .refuse7 .ensures) (λ z. omega arith) refl)
+
+returns-12 : tie.Need-returns-12
+returns-12 c = stands _ _ _ _ (c .before .before .before .register-at .ensures) (c .before .enum-told12 .given .1) (refused-row _ _ _ IbiLevel _ 2 (c .refuse8 .ensures) (λ z. omega arith) refl)
+
+same-length : tie.Need-same-length
+same-length c = search needs
+
+returns-13 : tie.Need-returns-13
+returns-13 c = stands _ _ _ _ (c .before .before .before .before .before .before .register-at .ensures) (c .before .before .before .before .enum-told13 .given .1) (c .before .before .write-cmd .ensures _)
+
+returns-14 : tie.Need-returns-14
+returns-14 c = stands _ _ _ _ (c .before .before .before .register-at .ensures) (c .before .enum-told14 .given .1) (refused-row _ _ _ CmdrFifo _ 2 (c .refuse9 .ensures) (λ z. omega arith) refl)
+
+same-length-2 : tie.Need-same-length-2
+same-length-2 c = search needs
+
+returns-15 : tie.Need-returns-15
+returns-15 c = stands _ _ _ _ (c .before .before .before .before .before .before .register-at .ensures) (c .before .before .before .before .enum-told15 .given .1) (c .before .before .write-sdo .ensures _)
+
+returns-16 : tie.Need-returns-16
+returns-16 c = stands _ _ _ _ (c .before .before .before .register-at .ensures) (c .before .enum-told16 .given .1) (refused-row _ _ _ SdiFifo _ 2 (c .refuse10 .ensures) (λ z. omega arith) refl)
+
+returns-17 : tie.Need-returns-17
+returns-17 c = stands _ _ _ _ (c .before .before .before .register-at .ensures) (c .before .enum-told17 .given .1) (refused-row _ _ _ IbiFifo _ 2 (c .refuse11 .ensures) (λ z. omega arith) refl)
+
+returns-18 : tie.Need-returns-18
+returns-18 c = stands _ _ _ _ (c .before .before .before .register-at .ensures) (c .before .enum-told18 .given .1) (refused-row _ _ _ FifoStatus _ 2 (c .refuse12 .ensures) (λ z. omega arith) refl)
+
+returns-19 : tie.Need-returns-19
+returns-19 c = stands _ _ _ _ (c .before .before .before .register-at .ensures) (c .before .enum-told19 .given .1) (c .write-ops .ensures _ _)
+
+returns-20 : tie.Need-returns-20
+returns-20 c = stands _ _ _ _ (c .before .before .before .register-at .ensures) (c .before .enum-told20 .given .1) (c .write-config .ensures _ _)
+
+returns-21 : tie.Need-returns-21
+returns-21 c = stands _ _ _ _ (c .before .before .before .before .register-at .ensures) (c .before .before .enum-told21 .given .1) (c .write-device .ensures _ _ _)
+
+returns-22 : tie.Need-returns-22
+returns-22 c = stands _ _ _ _ (c .before .before .before .before .before .register-at .ensures) (c .before .before .before .r .given .1) (c .write-offload-cmd .ensures _ _ _)
+
+returns-23 : tie.Need-returns-23
+returns-23 c = stands _ _ _ _ (c .before .before .before .before .before .register-at .ensures) (c .before .before .before .r2 .given .1) (c .write-offload-sdo .ensures _ _ _)
+
+returns-24 : tie.Need-returns-24
+returns-24 c = stands _ _ _ _ (c .before .before .before .register-at .ensures) (c .before .enum-told22 .given .1) (refused-row _ _ _ Unmapped _ 4 (c .refuse13 .ensures) (λ z. omega arith) refl)
+
+pub write-spec : {M : Type 1} → statement M
+write-spec =
+    tie.close
+    (tie.spec
+    register-at-requires
+    enum-told
+    refuse-requires
+    enum-told-2
+    refuse-requires-2
+    enum-told-3
+    write-scratch-requires
+    enum-told-4
+    write-enable-requires
+    enum-told-5
+    write-mask-requires
+    enum-told-6
+    write-pending-requires
+    enum-told-7
+    refuse-requires-3
+    enum-told-8
+    refuse-requires-4
+    enum-told-9
+    refuse-requires-5
+    enum-told-10
+    refuse-requires-6
+    enum-told-11
+    refuse-requires-7
+    enum-told-12
+    refuse-requires-8
+    enum-told-13
+    write-cmd-requires
+    enum-told-14
+    refuse-requires-9
+    enum-told-15
+    write-sdo-requires
+    enum-told-16
+    refuse-requires-10
+    enum-told-17
+    refuse-requires-11
+    enum-told-18
+    refuse-requires-12
+    enum-told-19
+    write-ops-requires
+    enum-told-20
+    write-config-requires
+    enum-told-21
+    write-device-requires
+    enum-known-r
+    write-offload-cmd-requires
+    enum-known-r-2
+    write-offload-sdo-requires
+    enum-told-22
+    refuse-requires-13
+    returns
+    returns-2
+    returns-3
+    returns-4
+    returns-5
+    returns-6
+    returns-7
+    returns-8
+    returns-9
+    returns-10
+    returns-11
+    returns-12
+    same-length
+    returns-13
+    returns-14
+    same-length-2
+    returns-15
+    returns-16
+    returns-17
+    returns-18
+    returns-19
+    returns-20
+    returns-21
+    returns-22
+    returns-23
+    returns-24)

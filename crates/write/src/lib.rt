@@ -1,0 +1,251 @@
+// A write to a register, behind the two tests of bank and store: a layer, no interface. A table is lent only to the
+// functions that change it; the others promise their step for every table and store.
+ghost use mathlib.Core.Path.{_≡_};
+ghost use mathlib.Core.Bool.{true, false, cond};
+ghost use Prim.Native.Nat.{ℕ};
+ghost use mathlib.Core.List.{List};
+ghost use lib.ListN.{set};
+ghost use Rattle.bank.proofs.Laws.{Ready};
+ghost use Rattle.registers.specs.declared.Register.the-variants.{Scratch, Enable, IrqMask, IrqPending, CmdFifo, SdoFifo, Ops, IbiConfig, DevChar, OffloadCmd, OffloadSdo};
+ghost use Rattle.registers.specs.Map.{registerAt};
+ghost use Rattle.model.specs.View.{bit, bits, Tables};
+ghost use Rattle.model.specs.Registers.{acknowledged, enable};
+ghost use Rattle.answer.specs.Given.{tables, view, given, doneNext, served, Open};
+ghost use Rattle.write.specs.At.{writeAt, pushNumber};
+use answer::Next;
+use bank::Control;
+use bank::Phase;
+use bank::Queues;
+use bank::Regs;
+use bank::State;
+use registers::Register;
+
+// A write that changes no more than the registers.
+fn put_regs(st: State, g: Regs) -> Next
+    ensures { λ y. ⌜ y ≡ doneNext (st .queues) g (st .control) (st .phase) 0 0 ⌝ }
+{
+    let q = st.queues;
+    let c = st.control;
+    let p = st.phase;
+    answer::done(q, g, c, p, 0, 0)
+}
+
+// SCRATCH, IRQ_MASK, OPS and IBI_CONFIG keep the bits that the map names for them.
+fn write_scratch(st: State, v: u32) -> Next
+    ensures { λ y. ⌜ ((t : Tables) (s : List ℕ) → given y t s ≡ writeAt st t s Scratch v) ⌝ }
+{
+    let mut g = st.regs;
+    g.scratch = v;
+    put_regs(st, g)
+}
+
+fn write_mask(st: State, v: u32) -> Next
+    ensures { λ y. ⌜ ((t : Tables) (s : List ℕ) → given y t s ≡ writeAt st t s IrqMask v) ⌝ }
+{
+    let mut g = st.regs;
+    g.mask = (v % 256) as u8;
+    put_regs(st, g)
+}
+
+fn write_ops(st: State, v: u32) -> Next
+    ensures { λ y. ⌜ ((t : Tables) (s : List ℕ) → given y t s ≡ writeAt st t s Ops v) ⌝ }
+{
+    let mut g = st.regs;
+    g.ops = (v % 128) as u8;
+    put_regs(st, g)
+}
+
+fn write_config(st: State, v: u32) -> Next
+    ensures { λ y. ⌜ ((t : Tables) (s : List ℕ) → given y t s ≡ writeAt st t s IbiConfig v) ⌝ }
+{
+    let mut g = st.regs;
+    g.config = (v % 4) as u8;
+    put_regs(st, g)
+}
+
+// A 1 clears the pending bit at its place.
+fn acknowledge(c: Control, v: u32) -> Control
+    ensures { λ r. ⌜ r ≡ acknowledged v c ⌝ }
+{
+    let mut next = c;
+    next.cmdrpending = !(v / 32 % 2 == 1) & c.cmdrpending;
+    next.ibipending = !(v / 64 % 2 == 1) & c.ibipending;
+    next.daapending = !(v / 128 % 2 == 1) & c.daapending;
+    next
+}
+
+fn write_pending(st: State, v: u32) -> Next
+    ensures { λ y. ⌜ ((t : Tables) (s : List ℕ) → given y t s ≡ writeAt st t s IrqPending v) ⌝ }
+{
+    let q = st.queues;
+    let g = st.regs;
+    let c = acknowledge(st.control, v);
+    let p = st.phase;
+    answer::done(q, g, c, p, 0, 0)
+}
+
+// ENABLE written 1: the registers stay, the store is not written.
+fn reset(st: State) -> Next
+    ensures { λ y. ⌜ ((t : Tables) (s : List ℕ) → given y t s ≡ served st t s (enable (view st t s) true)) ⌝ }
+{
+    let q = Queues {
+        cmd: answer::clear(st.queues.cmd),
+        cmdr: answer::clear(st.queues.cmdr),
+        sdo: answer::clear(st.queues.sdo),
+        sdi: answer::clear(st.queues.sdi),
+        ibi: answer::clear(st.queues.ibi),
+    };
+    let c = bank::cleared_control(true);
+    let g = st.regs;
+    answer::done(q, g, c, Phase::Idle, 0, 0)
+}
+
+// ENABLE written 0.
+fn release(st: State) -> Next
+    ensures { λ y. ⌜ ((t : Tables) (s : List ℕ) → given y t s ≡ served st t s (enable (view st t s) false)) ⌝ }
+{
+    let q = st.queues;
+    let g = st.regs;
+    let mut c = st.control;
+    c.held = false;
+    let p = st.phase;
+    answer::done(q, g, c, p, 0, 0)
+}
+
+fn write_enable(st: State, v: u32) -> Next
+    ensures { λ y. ⌜ ((t : Tables) (s : List ℕ) → given y t s ≡ writeAt st t s Enable v) ⌝ }
+{
+    if v % 2 == 1 {
+        return reset(st);
+    }
+    release(st)
+}
+
+// The number of a push: 0 where no reset holds the queues and there is room.
+fn push_number(held: bool, cap: u32, level: u32) -> u32
+    ensures { λ n. ⌜ n ≡ pushNumber held cap level ⌝ }
+{
+    bank::select(held, 5, bank::select(cap <= level, 1, 0))
+}
+
+fn write_cmd(st: State, store: &mut [u32], v: u32) -> Next
+    requires { ⌜ Ready (st .queues) (now store) ⌝ }
+    ensures { λ y. ⌜ ((t : Tables) → given y t (now (store .exit)) ≡ writeAt st t (now (store .entry)) CmdFifo v) ⌝ }
+{
+    let n = push_number(st.control.held, st.queues.cmd.cap.0, st.queues.cmd.level.0);
+    if n != 0 {
+        return answer::refuse(st, n);
+    }
+    let mut q = st.queues;
+    q.cmd = answer::push_if(st.queues.cmd, 0, store, true, v);
+    let g = st.regs;
+    let c = st.control;
+    let p = st.phase;
+    answer::done(q, g, c, p, 0, 0)
+}
+
+// A push to SDO clears the pending bit of address requests.
+fn write_sdo(st: State, store: &mut [u32], v: u32) -> Next
+    requires { ⌜ Ready (st .queues) (now store) ⌝ }
+    ensures { λ y. ⌜ ((t : Tables) → given y t (now (store .exit)) ≡ writeAt st t (now (store .entry)) SdoFifo v) ⌝ }
+{
+    let n = push_number(st.control.held, st.queues.sdo.cap.0, st.queues.sdo.level.0);
+    if n != 0 {
+        return answer::refuse(st, n);
+    }
+    let base = answer::sdo_at(st.queues);
+    let mut q = st.queues;
+    q.sdo = answer::push_if(st.queues.sdo, base, store, true, v);
+    let g = st.regs;
+    let mut c = st.control;
+    c.daapending = false;
+    let p = st.phase;
+    answer::done(q, g, c, p, 0, 0)
+}
+
+// The flags of the device that a DEV_CHAR write selects are stored with bit 8 only.
+fn put_flags(flags: &mut [u8; 128], v: u32)
+    ensures { λ _. ⌜ now (flags .exit) ≡ cond (bit 8 v) (set (now (flags .entry)) (bits 15 9 v) (bits 3 1 v)) (now (flags .entry)) ⌝ }
+{
+    if v / 256 % 2 == 1 {
+        let at = (v / 512 % 128) as usize;
+        flags[at] = (v / 2 % 8) as u8;
+    }
+}
+
+fn write_device(st: State, flags: &mut [u8; 128], v: u32) -> Next
+    ensures { λ y. ⌜ ((c p s : List ℕ) → given y (tables (now (flags .exit)) c p) s ≡ writeAt st (tables (now (flags .entry)) c p) s DevChar v) ⌝ }
+{
+    put_flags(flags, v);
+    let mut g = st.regs;
+    g.selected = (v / 512 % 128) as u8;
+    put_regs(st, g)
+}
+
+// One word of an offload memory. A place past the end stores nothing, so no caller has to bound it.
+fn put_word(memory: &mut [u32], i: u32, v: u32)
+    ensures { λ _. ⌜ now (memory .exit) ≡ set (now (memory .entry)) i v ⌝ }
+{
+    let at = i as usize;
+    if at < memory.len() {
+        memory[at] = v;
+    }
+}
+
+fn write_offload_cmd(st: State, commands: &mut [u32; 16], i: u32, v: u32) -> Next
+    ensures { λ y. ⌜ ((f p s : List ℕ) → given y (tables f (now (commands .exit)) p) s ≡ writeAt st (tables f (now (commands .entry)) p) s (OffloadCmd i) v) ⌝ }
+{
+    put_word(commands, i, v);
+    let g = st.regs;
+    put_regs(st, g)
+}
+
+fn write_offload_sdo(st: State, payloads: &mut [u32; 16], i: u32, v: u32) -> Next
+    ensures { λ y. ⌜ ((f c s : List ℕ) → given y (tables f c (now (payloads .exit))) s ≡ writeAt st (tables f c (now (payloads .entry))) s (OffloadSdo i) v) ⌝ }
+{
+    put_word(payloads, i, v);
+    let g = st.regs;
+    put_regs(st, g)
+}
+
+// A write at an offset.
+pub fn write(
+    st: State,
+    flags: &mut [u8; 128],
+    commands: &mut [u32; 16],
+    payloads: &mut [u32; 16],
+    store: &mut [u32],
+    offset: u16,
+    v: u32,
+) -> Next
+    requires { ⌜ Open st (now store) ⌝ }
+    ensures { λ y. ⌜ given y (tables (now (flags .exit)) (now (commands .exit)) (now (payloads .exit))) (now (store .exit)) ≡ writeAt st (tables (now (flags .entry)) (now (commands .entry)) (now (payloads .entry))) (now (store .entry)) (registerAt offset) v ⌝ }
+{
+    let r = registers::register_at(offset);
+    match r {
+        Register::Version => answer::refuse(st, 2),
+        Register::Id => answer::refuse(st, 2),
+        Register::Scratch => write_scratch(st, v),
+        Register::Enable => write_enable(st, v),
+        Register::IrqMask => write_mask(st, v),
+        Register::IrqPending => write_pending(st, v),
+        Register::IrqSource => answer::refuse(st, 2),
+        Register::CmdRoom => answer::refuse(st, 2),
+        Register::CmdrLevel => answer::refuse(st, 2),
+        Register::SdoRoom => answer::refuse(st, 2),
+        Register::SdiLevel => answer::refuse(st, 2),
+        Register::IbiLevel => answer::refuse(st, 2),
+        Register::CmdFifo => write_cmd(st, store, v),
+        Register::CmdrFifo => answer::refuse(st, 2),
+        Register::SdoFifo => write_sdo(st, store, v),
+        Register::SdiFifo => answer::refuse(st, 2),
+        Register::IbiFifo => answer::refuse(st, 2),
+        Register::FifoStatus => answer::refuse(st, 2),
+        Register::Ops => write_ops(st, v),
+        Register::IbiConfig => write_config(st, v),
+        Register::DevChar => write_device(st, flags, v),
+        Register::OffloadCmd(i) => write_offload_cmd(st, commands, i, v),
+        Register::OffloadSdo(i) => write_offload_sdo(st, payloads, i, v),
+        Register::Unmapped => answer::refuse(st, 4),
+    }
+}

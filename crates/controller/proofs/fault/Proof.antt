@@ -25,7 +25,7 @@ select-requires-2 c κs = search needs
 
 -- src/lib.rt:18:1
 returns : tie.Need-returns
-returns c = ?
+returns c = rw (c .select2 .ensures, c .before .select .ensures, c .before .before .total-of .ensures, c .before .before .before .well-formed .ensures)
 
 pub fault-spec : {M : Type 1} → statement M
 fault-spec =

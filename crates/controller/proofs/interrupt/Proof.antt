@@ -1,3 +1,8 @@
+use mathlib.Core.Path.{refl}
+use Rattle.answer.specs.Given.{tablesOf}
+use Rattle.model.specs.declared.Call.the-variants.{Interrupt}
+use mathlib.Core.Path.{sym, _∙_}
+use Rattle.controller.proofs.Guards.{faulty, sound, opens}
 use borrow.Author.Needs.{needs}
 use Rattle.controller.proofs.interrupt.Statement.{statement}
 use Rattle.controller.proofs.interrupt.Tie as tie
@@ -18,11 +23,17 @@ refuse-requires c κs = search needs
 
 -- src/lib.rt:155:9
 returns : tie.Need-returns
-returns c = ?
+returns c = let a = c .before .before .before .before in
+    let b = a .args .b in
+    let s = a .args .store .now in
+    rw (c .refuse .ensures) (faulty b s (Interrupt (a .args .address) (a .args .byte)) _ (c .before .if1 .taken) (c .before .before .fault .ensures))
 
 -- src/lib.rt:158:9
 interrupt-requires : tie.Need-interrupt-requires
-interrupt-requires c κs = ?
+interrupt-requires c κs = let a = c .before .before .before .before .before .before in
+    let b = a .args .b in
+    let s = a .args .store .now in
+    opens b s (sym (c .before .before .before .before .fault .ensures) ∙ c .before .before .before .if1 .left)
 
 -- src/lib.rt:159:5
 with-state-requires : tie.Need-with-state-requires
@@ -34,7 +45,10 @@ same-length c = search needs
 
 -- src/lib.rt:150:1
 returns-2 : tie.Need-returns-2
-returns-2 c = ?
+returns-2 c = let a = c .before .before .before .before .before .before .before .before .before .before in
+    let b = a .args .b in
+    let s = a .args .store .now in
+    rw (c .with-state .ensures) (c .before .before .before .interrupt .ensures (tablesOf b) refl ∙ sound b s (Interrupt (a .args .address) (a .args .byte)) (sym (c .before .before .before .before .before .before .before .before .fault .ensures) ∙ c .before .before .before .before .before .before .before .if1 .left))
 
 pub interrupt-spec : {M : Type 1} → statement M
 interrupt-spec =

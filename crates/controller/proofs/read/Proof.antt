@@ -1,3 +1,7 @@
+use Rattle.read.specs.At.{readAt}
+use Rattle.model.specs.declared.Call.the-variants.{Read}
+use mathlib.Core.Path.{sym, _∙_}
+use Rattle.controller.proofs.Guards.{faulty, sound, opens}
 use borrow.Author.Needs.{needs}
 use Rattle.controller.proofs.read.Statement.{statement}
 use Rattle.controller.proofs.read.Tie as tie
@@ -18,11 +22,17 @@ refuse-requires c κs = search needs
 
 -- src/lib.rt:76:9
 returns : tie.Need-returns
-returns c = ?
+returns c = let a = c .before .before .before .before in
+    let b = a .args .b in
+    let s = a .args .store .now in
+    rw (c .refuse .ensures) (faulty b s (Read (a .args .offset)) _ (c .before .if1 .taken) (c .before .before .fault .ensures))
 
 -- src/lib.rt:81:9
 read-requires : tie.Need-read-requires
-read-requires c κs = ?
+read-requires c κs = let a = c .before .before .before .before .before .before .before .before .before in
+    let b = a .args .b in
+    let s = a .args .store .now in
+    opens b s (sym (c .before .before .before .before .before .before .before .fault .ensures) ∙ c .before .before .before .before .before .before .if1 .left)
 
 -- src/lib.rt:82:5
 with-state-requires : tie.Need-with-state-requires
@@ -30,7 +40,11 @@ with-state-requires c κs = search needs
 
 -- src/lib.rt:71:1
 returns-2 : tie.Need-returns-2
-returns-2 c = ?
+unfolding readAt
+returns-2 c = let a = c .before .before .before .before .before .before .before .before .before .before .before in
+    let b = a .args .b in
+    let s = a .args .store .now in
+    rw (c .with-state .ensures) (c .before .read .ensures ∙ sound b s (Read (a .args .offset)) (sym (c .before .before .before .before .before .before .before .before .before .fault .ensures) ∙ c .before .before .before .before .before .before .before .before .if1 .left))
 
 pub read-spec : {M : Type 1} → statement M
 read-spec =

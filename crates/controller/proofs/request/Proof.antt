@@ -1,3 +1,7 @@
+use Rattle.answer.specs.Given.{tablesOf}
+use Rattle.model.specs.declared.Call.the-variants.{Request}
+use mathlib.Core.Path.{sym, _∙_}
+use Rattle.controller.proofs.Guards.{faulty, sound, opens}
 use borrow.Author.Needs.{needs}
 use Rattle.controller.proofs.request.Statement.{statement}
 use Rattle.controller.proofs.request.Tie as tie
@@ -18,11 +22,17 @@ refuse-requires c κs = search needs
 
 -- src/lib.rt:168:9
 returns : tie.Need-returns
-returns c = ?
+returns c = let a = c .before .before .before .before in
+    let b = a .args .b in
+    let s = a .args .store .now in
+    rw (c .refuse .ensures) (faulty b s (Request (a .args .v) (a .args .w)) _ (c .before .if1 .taken) (c .before .before .fault .ensures))
 
 -- src/lib.rt:170:9
 request-requires : tie.Need-request-requires
-request-requires c κs = ?
+request-requires c κs = let a = c .before .before .before .before in
+    let b = a .args .b in
+    let s = a .args .store .now in
+    opens b s (sym (c .before .before .fault .ensures) ∙ c .before .if1 .left)
 
 -- src/lib.rt:171:5
 with-state-requires : tie.Need-with-state-requires
@@ -34,7 +44,10 @@ same-length c = search needs
 
 -- src/lib.rt:163:1
 returns-2 : tie.Need-returns-2
-returns-2 c = ?
+returns-2 c = let a = c .before .before .before .before .before .before .before .before in
+    let b = a .args .b in
+    let s = a .args .store .now in
+    rw (c .with-state .ensures) (c .before .before .before .request .ensures (tablesOf b) ∙ sound b s (Request (a .args .v) (a .args .w)) (sym (c .before .before .before .before .before .before .fault .ensures) ∙ c .before .before .before .before .before .if1 .left))
 
 pub request-spec : {M : Type 1} → statement M
 request-spec =

@@ -1,3 +1,7 @@
+use Rattle.answer.specs.Given.{tablesOf}
+use Rattle.model.specs.declared.Call.the-variants.{Send}
+use mathlib.Core.Path.{sym, _∙_}
+use Rattle.controller.proofs.Guards.{faulty, sound, opens}
 use borrow.Author.Needs.{needs}
 use Rattle.controller.proofs.send.Statement.{statement}
 use Rattle.controller.proofs.send.Tie as tie
@@ -18,11 +22,17 @@ refuse-requires c κs = search needs
 
 -- src/lib.rt:119:9
 returns : tie.Need-returns
-returns c = ?
+returns c = let a = c .before .before .before .before in
+    let b = a .args .b in
+    let s = a .args .store .now in
+    rw (c .refuse .ensures) (faulty b s Send _ (c .before .if1 .taken) (c .before .before .fault .ensures))
 
 -- src/lib.rt:121:9
 send-requires : tie.Need-send-requires
-send-requires c κs = ?
+send-requires c κs = let a = c .before .before .before in
+    let b = a .args .b in
+    let s = a .args .store .now in
+    opens b s (sym (c .before .fault .ensures) ∙ c .if1 .left)
 
 -- src/lib.rt:122:5
 with-state-requires : tie.Need-with-state-requires
@@ -30,7 +40,10 @@ with-state-requires c κs = search needs
 
 -- src/lib.rt:114:1
 returns-2 : tie.Need-returns-2
-returns-2 c = ?
+returns-2 c = let a = c .before .before .before .before .before in
+    let b = a .args .b in
+    let s = a .args .store .now in
+    rw (c .with-state .ensures) (c .before .send .ensures (tablesOf b) ∙ sound b s Send (sym (c .before .before .before .fault .ensures) ∙ c .before .before .if1 .left))
 
 pub send-spec : {M : Type 1} → statement M
 send-spec =

@@ -1,3 +1,9 @@
+use Rattle.write.specs.At.{writeAt}
+use Rattle.read.specs.At.{readAt}
+use Rattle.answer.specs.Given.{tables, view, decided}
+use Rattle.model.specs.Calls.{decide}
+use Rattle.model.specs.declared.Call.{Call}
+use mathlib.Core.Path.{refl, ap, sym, _∙_}
 use borrow.Author.Needs.{needs}
 use Rattle.controller.proofs.serve.Statement.{statement}
 use Rattle.controller.proofs.serve.Tie as tie
@@ -91,7 +97,12 @@ same-length c = search needs
 
 -- src/lib.rt:187:1
 returns : tie.Need-returns
-returns c = ?
+unfolding readAt
+returns c = let a = c .before .before .before .before .before .before .before .before .before in
+    let st = a .args .st in
+    let t = tables (a .args .flags .now) (a .args .commands .now) (a .args .payloads .now) in
+    let s = a .args .store .now in
+    c .read .ensures ∙ ap (λ (k : Call). decided st t s (decide (view st t s) k)) (sym (c .before .before .before .before .before .before .call .given .1))
 
 -- src/lib.rt:187:1
 same-length-2 : tie.Need-same-length-2
@@ -99,7 +110,12 @@ same-length-2 c = search needs
 
 -- src/lib.rt:187:1
 returns-2 : tie.Need-returns-2
-returns-2 c = ?
+unfolding writeAt
+returns-2 c = let a = c .before .before .before .before .before .before .before .before .before .before .before in
+    let st = a .args .st in
+    let t = tables (a .args .flags .now) (a .args .commands .now) (a .args .payloads .now) in
+    let s = a .args .store .now in
+    c .before .before .write .ensures ∙ ap (λ (k : Call). decided st t s (decide (view st t s) k)) (sym (c .before .before .before .before .before .before .before .before .call2 .given .1))
 
 -- src/lib.rt:187:1
 same-length-3 : tie.Need-same-length-3
@@ -107,7 +123,11 @@ same-length-3 c = search needs
 
 -- src/lib.rt:187:1
 returns-3 : tie.Need-returns-3
-returns-3 c = ?
+returns-3 c = let a = c .before .before .before .before .before .before in
+    let st = a .args .st in
+    let t = tables (a .args .flags .now) (a .args .commands .now) (a .args .payloads .now) in
+    let s = a .args .store .now in
+    c .start .ensures (a .args .commands .now) (a .args .payloads .now) ∙ ap (λ (k : Call). decided st t s (decide (view st t s) k)) (sym (c .before .before .before .enum-told .given .1))
 
 -- src/lib.rt:187:1
 same-length-4 : tie.Need-same-length-4
@@ -115,7 +135,11 @@ same-length-4 c = search needs
 
 -- src/lib.rt:187:1
 returns-4 : tie.Need-returns-4
-returns-4 c = ?
+returns-4 c = let a = c .before .before .before .before .before in
+    let st = a .args .st in
+    let t = tables (a .args .flags .now) (a .args .commands .now) (a .args .payloads .now) in
+    let s = a .args .store .now in
+    c .send .ensures t ∙ ap (λ (k : Call). decided st t s (decide (view st t s) k)) (sym (c .before .before .enum-told2 .given .1))
 
 -- src/lib.rt:187:1
 same-length-5 : tie.Need-same-length-5
@@ -123,7 +147,11 @@ same-length-5 c = search needs
 
 -- src/lib.rt:187:1
 returns-5 : tie.Need-returns-5
-returns-5 c = ?
+returns-5 c = let a = c .before .before .before .before .before .before .before .before in
+    let st = a .args .st in
+    let t = tables (a .args .flags .now) (a .args .commands .now) (a .args .payloads .now) in
+    let s = a .args .store .now in
+    c .before .before .receive .ensures t ∙ ap (λ (k : Call). decided st t s (decide (view st t s) k)) (sym (c .before .before .before .before .before .call3 .given .1))
 
 -- src/lib.rt:187:1
 same-length-6 : tie.Need-same-length-6
@@ -131,7 +159,11 @@ same-length-6 c = search needs
 
 -- src/lib.rt:187:1
 returns-6 : tie.Need-returns-6
-returns-6 c = ?
+returns-6 c = let a = c .before .before .before .before .before .before .before .before in
+    let st = a .args .st in
+    let t = tables (a .args .flags .now) (a .args .commands .now) (a .args .payloads .now) in
+    let s = a .args .store .now in
+    c .before .before .finish .ensures t ∙ ap (λ (k : Call). decided st t s (decide (view st t s) k)) (sym (c .before .before .before .before .before .call4 .given .1))
 
 -- src/lib.rt:187:1
 same-length-7 : tie.Need-same-length-7
@@ -139,7 +171,11 @@ same-length-7 c = search needs
 
 -- src/lib.rt:187:1
 returns-7 : tie.Need-returns-7
-returns-7 c = ?
+returns-7 c = let a = c .before .before .before .before .before .before .before .before .before in
+    let st = a .args .st in
+    let t = tables (a .args .flags .now) (a .args .commands .now) (a .args .payloads .now) in
+    let s = a .args .store .now in
+    c .before .before .interrupt .ensures t refl ∙ ap (λ (k : Call). decided st t s (decide (view st t s) k)) (sym (c .before .before .before .before .before .before .call5 .given .1))
 
 -- src/lib.rt:187:1
 same-length-8 : tie.Need-same-length-8
@@ -147,7 +183,11 @@ same-length-8 c = search needs
 
 -- src/lib.rt:187:1
 returns-8 : tie.Need-returns-8
-returns-8 c = ?
+returns-8 c = let a = c .before .before .before .before .before .before .before .before in
+    let st = a .args .st in
+    let t = tables (a .args .flags .now) (a .args .commands .now) (a .args .payloads .now) in
+    let s = a .args .store .now in
+    c .before .before .request .ensures t ∙ ap (λ (k : Call). decided st t s (decide (view st t s) k)) (sym (c .before .before .before .before .before .call6 .given .1))
 
 -- src/lib.rt:187:1
 same-length-9 : tie.Need-same-length-9
@@ -155,7 +195,11 @@ same-length-9 c = search needs
 
 -- src/lib.rt:187:1
 returns-9 : tie.Need-returns-9
-returns-9 c = ?
+returns-9 c = let a = c .before .before .before .before .before in
+    let st = a .args .st in
+    let t = tables (a .args .flags .now) (a .args .commands .now) (a .args .payloads .now) in
+    let s = a .args .store .now in
+    c .take-address .ensures t ∙ ap (λ (k : Call). decided st t s (decide (view st t s) k)) (sym (c .before .before .enum-told3 .given .1))
 
 pub serve-spec : {M : Type 1} → statement M
 serve-spec =

@@ -1,3 +1,5 @@
+use mathlib.Core.Path.{sym, _∙_}
+use Rattle.controller.proofs.Guards.{faulty, sound, opens}
 use borrow.Author.Needs.{needs}
 use Rattle.controller.proofs.step.Statement.{statement}
 use Rattle.controller.proofs.step.Tie as tie
@@ -18,11 +20,17 @@ refuse-requires c κs = search needs
 
 -- src/lib.rt:217:9
 returns : tie.Need-returns
-returns c = ?
+returns c = let a = c .before .before .before .before in
+    let b = a .args .b in
+    let s = a .args .store .now in
+    rw (c .refuse .ensures) (faulty b s (a .args .call) _ (c .before .if1 .taken) (c .before .before .fault .ensures))
 
 -- src/lib.rt:222:9
 serve-requires : tie.Need-serve-requires
-serve-requires c κs = ?
+serve-requires c κs = let a = c .before .before .before .before .before .before .before .before .before .before in
+    let b = a .args .b in
+    let s = a .args .store .now in
+    opens b s (sym (c .before .before .before .before .before .before .before .before .fault .ensures) ∙ c .before .before .before .before .before .before .before .if1 .left)
 
 -- src/lib.rt:223:5
 with-tables-requires : tie.Need-with-tables-requires
@@ -34,7 +42,10 @@ same-length c = search needs
 
 -- src/lib.rt:212:1
 returns-2 : tie.Need-returns-2
-returns-2 c = ?
+returns-2 c = let a = c .before .before .before .before .before .before .before .before .before .before .before .before .before .before in
+    let b = a .args .b in
+    let s = a .args .store .now in
+    rw (c .with-tables .ensures) (c .before .before .before .serve .ensures ∙ sound b s (a .args .call) (sym (c .before .before .before .before .before .before .before .before .before .before .before .before .fault .ensures) ∙ c .before .before .before .before .before .before .before .before .before .before .before .if1 .left))
 
 pub step-spec : {M : Type 1} → statement M
 step-spec =

@@ -1,3 +1,7 @@
+use Rattle.answer.specs.Given.{tablesOf}
+use Rattle.model.specs.declared.Call.the-variants.{Take}
+use mathlib.Core.Path.{sym, _∙_}
+use Rattle.controller.proofs.Guards.{faulty, sound, opens}
 use borrow.Author.Needs.{needs}
 use Rattle.controller.proofs.take_address.Statement.{statement}
 use Rattle.controller.proofs.take_address.Tie as tie
@@ -18,11 +22,17 @@ refuse-requires c κs = search needs
 
 -- src/lib.rt:180:9
 returns : tie.Need-returns
-returns c = ?
+returns c = let a = c .before .before .before .before in
+    let b = a .args .b in
+    let s = a .args .store .now in
+    rw (c .refuse .ensures) (faulty b s Take _ (c .before .if1 .taken) (c .before .before .fault .ensures))
 
 -- src/lib.rt:182:9
 take-address-requires : tie.Need-take-address-requires
-take-address-requires c κs = ?
+take-address-requires c κs = let a = c .before .before .before in
+    let b = a .args .b in
+    let s = a .args .store .now in
+    opens b s (sym (c .before .fault .ensures) ∙ c .if1 .left)
 
 -- src/lib.rt:183:5
 with-state-requires : tie.Need-with-state-requires
@@ -30,7 +40,10 @@ with-state-requires c κs = search needs
 
 -- src/lib.rt:175:1
 returns-2 : tie.Need-returns-2
-returns-2 c = ?
+returns-2 c = let a = c .before .before .before .before .before in
+    let b = a .args .b in
+    let s = a .args .store .now in
+    rw (c .with-state .ensures) (c .before .take-address .ensures (tablesOf b) ∙ sound b s Take (sym (c .before .before .before .fault .ensures) ∙ c .before .before .if1 .left))
 
 pub take-address-spec : {M : Type 1} → statement M
 take-address-spec =

@@ -1,3 +1,7 @@
+use Rattle.write.specs.At.{writeAt}
+use Rattle.model.specs.declared.Call.the-variants.{Write}
+use mathlib.Core.Path.{sym, _∙_}
+use Rattle.controller.proofs.Guards.{faulty, sound, opens}
 use borrow.Author.Needs.{needs}
 use Rattle.controller.proofs.write.Statement.{statement}
 use Rattle.controller.proofs.write.Tie as tie
@@ -18,11 +22,17 @@ refuse-requires c κs = search needs
 
 -- src/lib.rt:91:9
 returns : tie.Need-returns
-returns c = ?
+returns c = let a = c .before .before .before .before in
+    let b = a .args .b in
+    let s = a .args .store .now in
+    rw (c .refuse .ensures) (faulty b s (Write (a .args .offset) (a .args .v)) _ (c .before .if1 .taken) (c .before .before .fault .ensures))
 
 -- src/lib.rt:96:9
 write-requires : tie.Need-write-requires
-write-requires c κs = ?
+write-requires c κs = let a = c .before .before .before .before .before .before .before .before .before .before in
+    let b = a .args .b in
+    let s = a .args .store .now in
+    opens b s (sym (c .before .before .before .before .before .before .before .before .fault .ensures) ∙ c .before .before .before .before .before .before .before .if1 .left)
 
 -- src/lib.rt:97:5
 with-tables-requires : tie.Need-with-tables-requires
@@ -34,7 +44,11 @@ same-length c = search needs
 
 -- src/lib.rt:86:1
 returns-2 : tie.Need-returns-2
-returns-2 c = ?
+unfolding writeAt
+returns-2 c = let a = c .before .before .before .before .before .before .before .before .before .before .before .before .before .before in
+    let b = a .args .b in
+    let s = a .args .store .now in
+    rw (c .with-tables .ensures) (c .before .before .before .write .ensures ∙ sound b s (Write (a .args .offset) (a .args .v)) (sym (c .before .before .before .before .before .before .before .before .before .before .before .before .fault .ensures) ∙ c .before .before .before .before .before .before .before .before .before .before .before .if1 .left))
 
 pub write-spec : {M : Type 1} → statement M
 write-spec =

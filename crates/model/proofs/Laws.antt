@@ -27,35 +27,35 @@ use Rattle.model.specs.Engine.{Step, outcome, step, final, answers}
 use Rattle.model.specs.Rings.{Controller, Area, areas, wordsIn, viewRings, onRing, onRings, onStores, settleRings, guardRings, rings}
 use Rattle.model.specs.Lists.{ListQueue, Lists, lists, onWords}
 use Rattle.model.specs.Laws.{fresh, freshLists, Agreement, EnginesAgree, RefusalChangesNothing, StoreKeepsLength, same, readNames, writeNames, names, OthersStay}
-use Rattle.model.proofs.Tests.{Passed, passed}
-use Rattle.model.proofs.Numbers.{zeroOr19, effect-number}
+use Rattle.model.proofs.Tests.{Passed, passed, Refusal, refusal}
+use Rattle.model.proofs.Numbers.{zeroOr19, effect-number, all-refusals}
 use Rattle.model.proofs.Room.{fits}
 use Rattle.model.proofs.Rings.{listQueue, listed, length-all, base-same, settled-words, onArea}
 use Rattle.model.proofs.Simulation.{Sound, same-answer, stays-sound, same-final}
 
 -- ── A step is refused by a number, or settled ─────────────────────────────────────────────────────────────────
 -- what the two tests of the bank leave to decide
-by-guard : (P : Option ℕ → Type 0) (l : Controller) (d : Decision) → ((n : ℕ) → P (some n)) → (wellFormed (l .bank) ≡ true → length (l .store) ≡ total (l .bank .state .queues) → P (first d)) → P (first (guardRings l d))
+by-guard : (P : Option ℕ → Type 0) (l : Controller) (d : Decision) → ((n : ℕ) → Refusal n → P (some n)) → (wellFormed (l .bank) ≡ true → length (l .store) ≡ total (l .bank .state .queues) → P (first d)) → P (first (guardRings l d))
 unfolding guardRings
 by-guard P l d r s = go (wellFormed (l .bank)) (eqb (length (l .store)) (total (l .bank .state .queues))) refl refl
   where
     go : (a b : Bool) → wellFormed (l .bank) ≡ a → eqb (length (l .store)) (total (l .bank .state .queues)) ≡ b → P (cond (not a) (some 21) (cond (not b) (some 22) (first d)))
-    go false b e f = r 21
-    go true false e f = r 22
+    go false b e f = r 21 (record { not0 = refl; not19 = refl })
+    go true false e f = r 22 (record { not0 = refl; not19 = refl })
     go true true e f = s e (eqb-true (length (l .store)) (total (l .bank .state .queues)) f)
 
 -- a property of the outcome holds where it holds of every refusal and of the settled call
 module _ (P : Step Controller → Type 0) (l : Controller) (c : Call) where
-  abbrev Q : Option ℕ → Type 0
+  abbrev pub Q : Option ℕ → Type 0
   Q n = P (outcome n (effect (decide (viewRings l) c)) l (settleRings l (effect (decide (viewRings l) c))))
 
-  by-outcome : ((n : ℕ) → Q (some n)) → (wellFormed (l .bank) ≡ true → length (l .store) ≡ total (l .bank .state .queues) → Passed (decide (viewRings l) c) → Q none) → P (step rings l c)
+  pub by-outcome : ((n : ℕ) → Refusal n → Q (some n)) → (wellFormed (l .bank) ≡ true → length (l .store) ≡ total (l .bank .state .queues) → Passed (decide (viewRings l) c) → Q none) → P (step rings l c)
   unfolding step guardRings
   by-outcome r s = by-guard Q l (decide (viewRings l) c) r (λ f z. go f z (first (decide (viewRings l) c)) refl)
     where
       go : wellFormed (l .bank) ≡ true → length (l .store) ≡ total (l .bank .state .queues) → (n : Option ℕ) → first (decide (viewRings l) c) ≡ n → Q n
       go f z none e = s f z (passed (decide (viewRings l) c) e)
-      go f z (some n) e = r n
+      go f z (some n) e = r n (refusal (decide (viewRings l) c) n (all-refusals (viewRings l) c) e)
 
 -- ── Refusals ──────────────────────────────────────────────────────────────────────────────────────────────────
 neither-is : (n : ℕ) → zeroOr19 n ≡ true → (n ≡ 0 → ⊥) → (n ≡ 19 → ⊥) → ⊥
@@ -64,11 +64,11 @@ neither-is n h a b = false≢true (sym (rw (ne-eqb n 0 a, ne-eqb n 19 b)) ∙ h)
 pub refusal-changes-nothing : RefusalChangesNothing
 unfolding RefusalChangesNothing
 refusal-changes-nothing l c =
-    by-outcome (λ r. (r .answer .number ≡ 0 → ⊥) → (r .answer .number ≡ 19 → ⊥) → (r .next ≡ l) × (r .answer .value ≡ 0)) l c (λ n a b. (refl, refl)) (λ f z p a b. absurd (neither-is (effect (decide (viewRings l) c) .number) (effect-number (viewRings l) c) a b))
+    by-outcome (λ r. (r .answer .number ≡ 0 → ⊥) → (r .answer .number ≡ 19 → ⊥) → (r .next ≡ l) × (r .answer .value ≡ 0)) l c (λ n k a b. (refl, refl)) (λ f z p a b. absurd (neither-is (effect (decide (viewRings l) c) .number) (effect-number (viewRings l) c) a b))
 
 pub store-keeps-length : StoreKeepsLength
 unfolding StoreKeepsLength
-store-keeps-length l c = by-outcome (λ r. length (r .next .store) ≡ length (l .store)) l c (λ n. refl) (λ f z p. length-all (effect (decide (viewRings l) c) .ops) (areas (l .bank .state .queues)) (l .store))
+store-keeps-length l c = by-outcome (λ r. length (r .next .store) ≡ length (l .store)) l c (λ n k. refl) (λ f z p. length-all (effect (decide (viewRings l) c) .ops) (areas (l .bank .state .queues)) (l .store))
 
 -- ── Queues that a call does not name ──────────────────────────────────────────────────────────────────────────
 kept-all : (k : Queue) → of k keepAll ≡ keep
@@ -155,7 +155,7 @@ pub others-stay : OthersStay
 unfolding OthersStay
 others-stay l c k h =
     by-outcome (λ r. (of k (areas (r .next .bank .state .queues)) ≡ of k (areas (l .bank .state .queues))) × (wordsIn (of k (areas (r .next .bank .state .queues))) (r .next .store) ≡ wordsIn (of k (areas (l .bank .state .queues))) (l .store))) l c
-    (λ n. (refl, refl))
+    (λ n r. (refl, refl))
     (λ f z p.
     let q = l .bank .state .queues in
     let o = effect (decide (viewRings l) c) .ops in

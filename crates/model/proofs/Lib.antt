@@ -13,3 +13,4 @@ pub mod Simulation
 pub mod Laws
 pub mod Demand
 pub mod Cases
+pub mod Driver

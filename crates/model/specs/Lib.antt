@@ -10,3 +10,4 @@ pub mod Laws
 pub mod Demand
 pub mod Cases
 pub mod Tallies
+pub mod Driver

@@ -1,0 +1,113 @@
+-- Laws that a driver author asks for, as statements about `step`. proofs/Driver.antt has a proof of each.
+use Prim.Native.Nat.{ℕ, _+_, _*_, _%_, _^_, _<_}
+use mathlib.Core.Path.{_≡_}
+use mathlib.Core.Bool.{Bool, true, false, cond}
+use mathlib.Core.List.{List, [], _∷_}
+use lib.ListN.{length, getD}
+use Rattle.bank.specs.declared.Sizes.{Sizes}
+use Rattle.bank.specs.Phases.{idle, transfer}
+use Rattle.bank.specs.SetUp.{setUp, total, cleared}
+use Rattle.registers.specs.Map.{registerAt}
+use Rattle.model.specs.declared.Call.{Call}
+use Rattle.model.specs.declared.Call.the-variants.{Read, Write, Finish}
+use Rattle.model.specs.View.{bit, bits, weigh, Queue, of, last}
+use Rattle.model.specs.Commands.{receiptWord}
+use Rattle.model.specs.Registers.{Cell, scratch, mask, ops, ibiConfig, devChar, offloadCmd, offloadSdo, Row, absent, shows, holds, pushes, takes, enables, acknowledges, row, clears}
+use Rattle.model.specs.Engine.{step, final}
+use Rattle.model.specs.Rings.{Controller, areas, wordsIn, viewRings, rings}
+use Rattle.model.specs.Laws.{fresh}
+
+-- ── What is written is read back, by the register's named bits ────────────────────────────────────────────────
+-- the bits that a read shows of a word written: IBI_CONFIG is write-only; OPS has its bit 7 from the transfer; DEV_CHAR shows the
+-- flags of the address selected
+abbrev pub shownOf : Cell → ℕ → Controller → ℕ
+shownOf scratch v l = v
+shownOf mask v l = v % 2 ^ 8
+shownOf ops v l = weigh (idle (l .bank .state .phase)) 128 + v % 2 ^ 7
+shownOf ibiConfig v l = 0
+shownOf devChar v l = bits 15 9 v * 2 ^ 9 + cond (bit 8 v) (bits 3 1 v) (getD (l .bank .flags) (bits 15 9 v) 0) * 2
+shownOf (offloadCmd i) v l = v
+shownOf (offloadSdo i) v l = v
+
+-- the tables have a place for it: 128 devices, sixteen words
+abbrev pub Within : Cell → ℕ → Controller → Type 0
+Within scratch v l = Unit {0}
+Within mask v l = Unit {0}
+Within ops v l = Unit {0}
+Within ibiConfig v l = Unit {0}
+Within devChar v l = bits 15 9 v < length (l .bank .flags)
+Within (offloadCmd i) v l = i < length (l .bank .commands)
+Within (offloadSdo i) v l = i < length (l .bank .payloads)
+
+unfoldable pub ReadBack : Type 0
+ReadBack =
+    (l : Controller) (o v : ℕ) (c : Cell) → row (registerAt o) ≡ holds c → Within c v l → step rings l (Write o v) .answer .number ≡ 0
+    → step rings (step rings l (Write o v) .next) (Read o) .answer ≡ record { value = shownOf c v l; number = 0 }
+
+-- ── The room of CMD and SDO plus the words that they hold is the capacity, after any list of calls ────────────
+pub record RoomIs (l : Controller) (caps : Sizes) : Type 0 where
+  pub cmd : step rings l (Read 0x0c0) .answer .value + length (wordsIn (areas (l .bank .state .queues) .cmd) (l .store)) ≡ caps .cmd
+  pub sdo : step rings l (Read 0x0c8) .answer .value + length (wordsIn (areas (l .bank .state .queues) .sdo) (l .store)) ≡ caps .sdo
+
+unfoldable pub RoomAndWords : Type 0
+RoomAndWords =
+    (caps marks : Sizes) (id : ℕ) (store : List ℕ) (cs : List Call) → setUp caps marks id .answer .number ≡ 0 → length store ≡ total (setUp caps marks id .bank .state .queues) → RoomIs (final rings (fresh caps marks id store) cs) caps
+
+-- ── What a read changes ───────────────────────────────────────────────────────────────────────────────────────
+abbrev pub takesWord : Row → Bool
+takesWord absent = false
+takesWord (shows f) = false
+takesWord (holds c) = false
+takesWord (pushes q) = false
+takesWord (takes q) = true
+takesWord enables = false
+takesWord acknowledges = false
+
+-- of any register but CMDR, SDI and IBI: nothing
+unfoldable pub ReadChangesNothing : Type 0
+ReadChangesNothing = (l : Controller) (o : ℕ) → takesWord (row (registerAt o)) ≡ false → step rings l (Read o) .next ≡ l
+
+-- of those three: that queue (the law OthersStay has the other queues) and its pending bit where it is then empty
+pub record ReadTook (l m : Controller) (q : Queue) : Type 0 where
+  pub store : m .store ≡ l .store
+  pub regs : m .bank .state .regs ≡ l .bank .state .regs
+  pub phase : m .bank .state .phase ≡ l .bank .state .phase
+  pub flags : m .bank .flags ≡ l .bank .flags
+  pub commands : m .bank .commands ≡ l .bank .commands
+  pub payloads : m .bank .payloads ≡ l .bank .payloads
+  pub control : m .bank .state .control ≡ clears q (last (of q (viewRings l .queues))) (l .bank .state .control)
+
+unfoldable pub ReadTakesOne : Type 0
+ReadTakesOne = (l : Controller) (o : ℕ) (q : Queue) → row (registerAt o) ≡ takes q → step rings l (Read o) .answer .number ≡ 0 → ReadTook l (step rings l (Read o) .next) q
+
+-- ── Reset and release ─────────────────────────────────────────────────────────────────────────────────────────
+-- after a release: no transfer, syncs and pending bits 0, all queues empty, whatever was before
+pub record Clean (l : Controller) : Type 0 where
+  pub control : l .bank .state .control ≡ cleared false
+  pub phase : idle (l .bank .state .phase) ≡ true
+  pub words : (k : Queue) → wordsIn (of k (areas (l .bank .state .queues))) (l .store) ≡ []
+
+unfoldable pub ReleasedClean : Type 0
+ReleasedClean = (l : Controller) (v : ℕ) → l .bank .state .control .held ≡ true → bit 0 v ≡ false → step rings l (Write 0x040 v) .answer .number ≡ 0 → Clean (step rings l (Write 0x040 v) .next)
+
+-- the mask, the other registers, the device table and the offload memories outlive a reset
+pub record Outlives (l m : Controller) : Type 0 where
+  pub regs : m .bank .state .regs ≡ l .bank .state .regs
+  pub flags : m .bank .flags ≡ l .bank .flags
+  pub commands : m .bank .commands ≡ l .bank .commands
+  pub payloads : m .bank .payloads ≡ l .bank .payloads
+
+unfoldable pub ResetKeeps : Type 0
+ResetKeeps = (l : Controller) (v : ℕ) → Outlives l (step rings l (Write 0x040 v) .next)
+
+-- ── A finish that is refused, then made again after reads: the receipt is that of the first ───────────────────
+abbrev pub reads : List ℕ → List Call
+reads [] = []
+reads (o ∷ os) = Read o ∷ reads os
+
+unfoldable pub RefusedFinishAgain : Type 0
+RefusedFinishAgain =
+    (l : Controller) (code : ℕ) (os : List ℕ) → step rings l (Finish code) .answer .number ≡ 13
+    → let m = final rings (step rings l (Finish code) .next) (reads os) in
+    step rings m (Finish code) .answer .number ≡ 0
+    → step rings m (Finish code) .answer .value ≡ receiptWord code (transfer (l .bank .state .phase) .moved .0) (l .bank .state .control .sync)

@@ -14,3 +14,4 @@ pub mod Laws
 pub mod Demand
 pub mod Cases
 pub mod Driver
+pub mod Endings

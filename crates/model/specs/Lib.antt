@@ -11,3 +11,4 @@ pub mod Demand
 pub mod Cases
 pub mod Tallies
 pub mod Driver
+pub mod Endings

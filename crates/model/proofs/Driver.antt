@@ -33,7 +33,7 @@ use Rattle.model.specs.Engine.{Step, outcome, step, final}
 use Rattle.model.specs.Rings.{Controller, Area, areas, wordsIn, viewRings, onRing, onStore, settleRings, guardRings, rings}
 use Rattle.model.specs.Lists.{Lists, viewLists, settleLists, lists}
 use Rattle.model.specs.Laws.{fresh, freshLists, RefusalChangesNothing, StaysWellFormed}
-use Rattle.model.specs.Driver.{shownOf, Within, ReadBack, RoomIs, RoomAndWords, takesWord, ReadChangesNothing, ReadTook, ReadTakesOne, Clean, ReleasedClean, Outlives, ResetKeeps, reads, RefusedFinishAgain}
+use Rattle.model.specs.Driver.{shownOf, Within, PlainWriteTaken, ReadBack, RoomIs, RoomAndWords, takesWord, ReadChangesNothing, ReadTook, ReadTakesOne, Clean, ReleasedClean, Outlives, ResetKeeps, reads, RefusedFinishAgain}
 use Rattle.model.proofs.Tests.{Passed, passed, Refusal}
 use Rattle.model.proofs.Room.{by-queue}
 use Rattle.model.proofs.Formed.{read-untouched}
@@ -58,6 +58,10 @@ RightLength l = length (l .store) ≡ total (l .bank .state .queues)
 read-held : (l : Controller) (o : ℕ) (c : Cell) → wellFormed (l .bank) ≡ true → eqb (length (l .store)) (total (l .bank .state .queues)) ≡ true → row (registerAt o) ≡ holds c → step rings l (Read o) .answer ≡ record { value = shown c (viewRings l); number = 0 }
 unfolding step guardRings
 read-held l o c f z e = rw (f, z, e)
+
+pub plain-write-taken : PlainWriteTaken
+unfolding PlainWriteTaken step guardRings
+plain-write-taken l o v c e f z = rw (f, eq-eqb (length (l .store)) (total (l .bank .state .queues)) z, e)
 
 -- ── Read back ─────────────────────────────────────────────────────────────────────────────────────────────────
 abbrev stored : Controller → Cell → ℕ → Controller

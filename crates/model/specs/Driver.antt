@@ -7,6 +7,7 @@ use lib.ListN.{length, getD}
 use Rattle.bank.specs.declared.Sizes.{Sizes}
 use Rattle.bank.specs.Phases.{idle, transfer}
 use Rattle.bank.specs.SetUp.{setUp, total, cleared}
+use Rattle.bank.specs.Formed.{wellFormed}
 use Rattle.registers.specs.Map.{registerAt}
 use Rattle.model.specs.declared.Call.{Call}
 use Rattle.model.specs.declared.Call.the-variants.{Read, Write, Finish}
@@ -38,6 +39,11 @@ Within ibiConfig v l = Unit {0}
 Within devChar v l = bits 15 9 v < length (l .bank .flags)
 Within (offloadCmd i) v l = i < length (l .bank .commands)
 Within (offloadSdo i) v l = i < length (l .bank .payloads)
+
+-- a write to such a register is taken, in reset too
+unfoldable pub PlainWriteTaken : Type 0
+PlainWriteTaken =
+    (l : Controller) (o v : ℕ) (c : Cell) → row (registerAt o) ≡ holds c → wellFormed (l .bank) ≡ true → length (l .store) ≡ total (l .bank .state .queues) → step rings l (Write o v) .answer ≡ record { value = 0; number = 0 }
 
 unfoldable pub ReadBack : Type 0
 ReadBack =

@@ -144,7 +144,7 @@ follow (some t) (bus e) = some (count t e)
 follow (some t) (gotReceipt v) = some (record { words = t .words; past = t .past; now = t .now; receipts = snoc (t .receipts) v })
 follow (some t) other = some t
 
--- ── CmdLog, commands, runs ─────────────────────────────────────────────────────────────────────────────────────
+-- ── Words, commands, runs ─────────────────────────────────────────────────────────────────────────────────────
 unfoldable pub allWords : List Written → List ℕ
 allWords [] = []
 allWords (w ∷ ws) = w .word ∷ allWords ws

@@ -1,4 +1,4 @@
--- The laws of a ring's entries, for any capacity and any base.
+-- The laws of a ring's entries, for any capacity that a ring may have and any base.
 use Prim.Native.Nat.{ℕ, zero, suc, _+_, _-_, _%_, _<_, _≤_}
 use native.Mathlib.Nat.{mod-eq-of-lt, mod-eq-sub-mod, mod-add-mod, mod-lt, add-assoc}
 use native.Mathlib.Numerals.{add-one, sub-one}

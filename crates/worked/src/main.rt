@@ -1,0 +1,160 @@
+// Runs 01's worked session, 004's examples of payload words, and address words with both values of the parity bit for
+// all 128 addresses, on the interface. Prints answers, one a line: all those of the session, then of each example those
+// that it is about.
+ghost use Prim.Native.Nat.{_<_};
+use bank::Bank;
+use bank::Sizes;
+use model::Call;
+
+const ENABLE: u16 = 0x040;
+
+const CMD: u16 = 0x0d4;
+
+const CMDR: u16 = 0x0d8;
+
+const SDO: u16 = 0x0dc;
+
+const SDI: u16 = 0x0e0;
+
+const DEV_CHAR: u16 = 0x180;
+
+// Address 8, attached.
+const DEVICE: u32 = 0x1102;
+
+// A bank with its store.
+struct Board {
+    bank: Bank,
+    store: [u32; 20],
+}
+
+// 01: "Its bank has every capacity 4, almost-empty watermarks 1, almost-full 3, ID 0."
+fn fresh() -> Board {
+    let caps = Sizes {
+        cmd: 4,
+        cmdr: 4,
+        sdo: 4,
+        sdi: 4,
+        ibi: 4,
+    };
+    let marks = Sizes {
+        cmd: 1,
+        cmdr: 3,
+        sdo: 1,
+        sdi: 3,
+        ibi: 3,
+    };
+    let r = setup::set_up(caps, marks, 0);
+    let b = r.bank;
+    Board {
+        bank: b,
+        store: [0u32; 20],
+    }
+}
+
+// The board after a call whose answer is not printed.
+fn run(board: Board, call: Call) -> Board {
+    let mut store = board.store;
+    let out = controller::step(board.bank, &mut store, call);
+    let b = out.bank;
+    Board {
+        bank: b,
+        store: store,
+    }
+}
+
+// The board after a call whose answer is printed.
+fn say(board: Board, call: Call) -> Board {
+    let mut store = board.store;
+    let out = controller::step(board.bank, &mut store, call);
+    let text = print::line(out.answer);
+    io::write_all(1, &text);
+    let b = out.bank;
+    Board {
+        bank: b,
+        store: store,
+    }
+}
+
+// 01, section 'A session'.
+fn session() {
+    let mut board = fresh();
+    board = say(board, Call::Write(ENABLE, 0));
+    board = say(board, Call::Write(DEV_CHAR, DEVICE));
+    board = say(board, Call::Write(SDO, 0xa5c3_0000));
+    board = say(board, Call::Write(CMD, 0x210));
+    board = say(board, Call::Start);
+    board = say(board, Call::Send);
+    board = say(board, Call::Send);
+    board = say(board, Call::Finish(0));
+    board = say(board, Call::Read(CMDR));
+    say(board, Call::Read(CMDR));
+}
+
+// A fresh board, released, on which a command for device 8 has started.
+fn started(command: u32) -> Board {
+    let mut board = fresh();
+    board = run(board, Call::Write(ENABLE, 0));
+    board = run(board, Call::Write(DEV_CHAR, DEVICE));
+    board = run(board, Call::Write(CMD, command));
+    run(board, Call::Start)
+}
+
+// 004, section 'SDI and SDO': the first row of the SDO table, a write of four bytes.
+fn sent() {
+    let mut board = started(0x410);
+    board = run(board, Call::Write(SDO, 0x7856_3412));
+    board = say(board, Call::Send);
+    board = say(board, Call::Send);
+    board = say(board, Call::Send);
+    say(board, Call::Send);
+}
+
+// 004, section 'SDI and SDO': the SDI table, a read of five bytes.
+fn received() {
+    let mut board = started(0x511);
+    board = run(board, Call::Receive(0));
+    board = run(board, Call::Receive(1));
+    board = run(board, Call::Receive(2));
+    board = run(board, Call::Receive(3));
+    board = run(board, Call::Receive(4));
+    board = run(board, Call::Finish(0));
+    board = say(board, Call::Read(SDI));
+    say(board, Call::Read(SDI));
+}
+
+// The SDO word of an address and a parity bit.
+fn word(address: u32, parity: u32) -> u32
+    requires { ⌜ (address < 128) × (parity < 2) ⌝ }
+{
+    address * 0x0200_0000 + parity * 0x0100_0000
+}
+
+// One device takes an address: 004, section 'Dynamic Address Assignment'.
+fn assigned(word: u32) {
+    let mut board = fresh();
+    board = run(board, Call::Write(ENABLE, 0));
+    board = run(board, Call::Write(CMD, 0x0040_0000));
+    board = run(board, Call::Write(CMD, 0x07));
+    board = run(board, Call::Start);
+    board = run(board, Call::Request(0, 0));
+    board = run(board, Call::Write(SDO, word));
+    say(board, Call::Take);
+}
+
+// An address with the parity bit that makes the number of ones odd, then with the other.
+fn both_parities(address: u32)
+    requires { ⌜ address < 128 ⌝ }
+{
+    let parity = 1 - u32::count_ones(address) % 2;
+    assigned(word(address, parity));
+    assigned(word(address, 1 - parity));
+}
+
+fn main() {
+    session();
+    sent();
+    received();
+    for address in 0..128 {
+        both_parities(address);
+    }
+}

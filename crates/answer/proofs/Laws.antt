@@ -1,15 +1,16 @@
 -- A call past the two tests of bank and store: refused by its number, or served.
-use Prim.Native.Nat.{ℕ}
+use Prim.Native.Nat.{ℕ, _<_}
 use mathlib.Core.Path.{_≡_, refl, ap, sym, _∙_}
 use mathlib.Core.Bool.{Bool, true, false, cond, not, _&&_, false≢true}
 use mathlib.Core.List.{List, []}
 use mathlib.Core.Option.{Option, none, some}
-use lib.Dec.{eqb}
+use lib.Dec.{eqb, leb}
+use borrow.Author.Tests.{leb-false}
 use Rattle.bank.specs.declared.State.{State}
 use Rattle.bank.proofs.Bools.{and-true}
 use Rattle.bank.proofs.Laws.{Ready, ready}
 use Rattle.model.specs.View.{Tables}
-use Rattle.model.specs.Decision.{QueueOp, keep, take, Effect, Decision, does, _⇒_∣_, first, effect}
+use Rattle.model.specs.Decision.{keep, take, Decision, does, _⇒_∣_, first, effect}
 use Rattle.model.specs.Engine.{outcome}
 use Rattle.model.specs.Rings.{Area, settleRings, onStore}
 use Rattle.model.proofs.Tests.{Passed, passed, refusals}
@@ -49,6 +50,11 @@ noTables = record { flags = []; commands = []; payloads = [] }
 
 pub ready-of : (st : State) (s : List ℕ) → Open st s → Ready (st .queues) s
 ready-of st s o = ready (st .queues) s (o .queues) (o .size)
+
+-- a push that is made only where a test holds has room there
+pub room-of : (a : Bool) (cap level : ℕ) → (a && leb cap level) ≡ false → a ≡ true → level < cap
+room-of true cap level e h = leb-false cap level e
+room-of false cap level e h = absurd (false≢true h)
 
 -- a take, made or not, writes no store word
 pub take-writes-none : (goes : Bool) (k : ℕ) (a : Area) (s : List ℕ) → onStore (cond goes (take k) keep) a s ≡ s

@@ -5,7 +5,7 @@ ghost use Rattle.model.specs.declared.Call.the-variants.{Read, Write, Start, Se
 ghost use Rattle.model.specs.Calls.{decide};
 ghost use Rattle.model.specs.Engine.{step};
 ghost use Rattle.model.specs.Rings.{rings};
-ghost use Rattle.answer.specs.Given.{controller, tables, tablesOf, bankWith, view, given, givenOut, decided, Open};
+ghost use Rattle.answer.specs.Given.{controller, tables, tablesOf, view, given, givenOut, decided, Open};
 ghost use Rattle.controller.specs.Faults.{faultNumber, refusedOut, nextOut};
 use answer::Next;
 use answer::Out;

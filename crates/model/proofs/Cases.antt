@@ -1,5 +1,5 @@
 -- The table of worked cases holds, and three lists of calls come to their tallies: by computation.
-use mathlib.Core.Path.{_≡_, refl}
+use mathlib.Core.Path.{refl}
 use lib.Count.{ones}
 use Rattle.ring.specs.Ring.{entries}
 use Rattle.bank.specs.SetUp.{sizesOk, setUp}

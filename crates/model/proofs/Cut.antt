@@ -1,7 +1,7 @@
 -- Cutting words into commands.
-use Prim.Native.Nat.{ℕ, suc}
+use Prim.Native.Nat.{ℕ}
 use mathlib.Core.Path.{_≡_, refl, ap, sym, _∙_}
-use mathlib.Core.Bool.{Bool, true, false, cond}
+use mathlib.Core.Bool.{true, false}
 use mathlib.Core.List.{List, [], _∷_, _++_, append-assoc}
 use Rattle.model.specs.Commands.{Command, Single, Ccc, twoWords, wordsOf}
 use Rattle.model.specs.Demand.{cut, joined}

@@ -7,12 +7,11 @@ use mathlib.Core.Option.{Option, none, some, Option·none-ne-some}
 use lib.Dec.{eqb}
 use lib.ListN.{length}
 use borrow.Author.Tests.{eqb-true, eqb-false}
-use Rattle.ring.specs.Ring.{entries}
 use Rattle.bank.specs.declared.Bank.{Bank}
 use Rattle.bank.specs.declared.Answer.{Answer}
 use Rattle.bank.specs.declared.Sizes.{Sizes}
 use Rattle.bank.specs.Phases.{idle}
-use Rattle.bank.specs.SetUp.{bankOf, setUp, total}
+use Rattle.bank.specs.SetUp.{setUp, total}
 use Rattle.bank.specs.Formed.{wellFormed}
 use Rattle.bank.proofs.Laws.{bank-is}
 use Rattle.model.specs.declared.Call.{Call}

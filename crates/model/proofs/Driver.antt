@@ -1,5 +1,5 @@
 -- The laws that a driver author asks for.
-use Prim.Native.Nat.{ℕ, _+_, _-_, _*_, _%_, _^_, _<_, _≤_}
+use Prim.Native.Nat.{ℕ, _+_, _-_, _*_, _^_, _<_, _≤_}
 use native.Mathlib.Omega.{arith}
 use mathlib.Core.Path.{_≡_, refl, ap, sym, _∙_, subst}
 use mathlib.Core.Bool.{Bool, true, false, cond, not, _&&_, _||_, true≢false, false≢true}
@@ -15,9 +15,8 @@ use Rattle.ring.proofs.Laws.{entries-length}
 use Rattle.bank.specs.declared.Control.{Control}
 use Rattle.bank.specs.declared.Phase.{Phase}
 use Rattle.bank.specs.declared.Queues.{Queues}
-use Rattle.bank.specs.declared.Sizes.{Sizes}
 use Rattle.bank.specs.Phases.{idle, transfer}
-use Rattle.bank.specs.SetUp.{setUp, total, cleared}
+use Rattle.bank.specs.SetUp.{total, cleared}
 use Rattle.bank.specs.Formed.{queuesClear, controlClear, ringClear, resetOk, wellFormed}
 use Rattle.bank.proofs.Bools.{and-true, three, five}
 use Rattle.bank.proofs.Laws.{Formed, formed-is, formed-of, ready}
@@ -25,20 +24,19 @@ use Rattle.registers.specs.Map.{named, find, registerAt}
 use Rattle.model.specs.declared.Call.{Call}
 use Rattle.model.specs.declared.Call.the-variants.{Read, Write, Finish}
 use Rattle.model.specs.View.{bit, bits, Queue, Cmd, Cmdr, Sdo, Sdi, Ibi, of, View}
-use Rattle.model.specs.Decision.{Effect, Decision, first, effect}
+use Rattle.model.specs.Decision.{Effect, first, effect}
 use Rattle.model.specs.Commands.{receiptWord}
-use Rattle.model.specs.Registers.{Cell, scratch, mask, ops, ibiConfig, devChar, offloadCmd, offloadSdo, Row, absent, shows, holds, pushes, takes, enables, acknowledges, row, shown, storedRegs, storedTables, clears, released, enable, read, write}
+use Rattle.model.specs.Registers.{Cell, scratch, mask, ops, ibiConfig, devChar, offloadCmd, offloadSdo, Row, absent, shows, holds, pushes, takes, enables, acknowledges, row, shown, clears, released, enable, read, write}
 use Rattle.model.specs.Calls.{decide, finish}
 use Rattle.model.specs.Engine.{Step, outcome, step, final}
-use Rattle.model.specs.Rings.{Controller, Area, areas, wordsIn, viewRings, onRing, onStore, settleRings, guardRings, rings}
+use Rattle.model.specs.Rings.{Controller, areas, wordsIn, viewRings, onRing, onStore, settleRings, guardRings, rings}
 use Rattle.model.specs.Lists.{Lists, viewLists, settleLists, lists}
 use Rattle.model.specs.Laws.{fresh, freshLists, RefusalChangesNothing, StaysWellFormed}
-use Rattle.model.specs.Driver.{shownOf, Within, PlainWriteTaken, ReadBack, RoomIs, RoomAndWords, takesWord, ReadChangesNothing, ReadTook, ReadTakesOne, Clean, ReleasedClean, Outlives, ResetKeeps, reads, RefusedFinishAgain}
-use Rattle.model.proofs.Tests.{Passed, passed, Refusal}
+use Rattle.model.specs.Driver.{shownOf, Within, PlainWriteTaken, ReadBack, RoomAndWords, takesWord, ReadChangesNothing, ReadTook, ReadTakesOne, Clean, ReleasedClean, Outlives, ResetKeeps, reads, RefusedFinishAgain}
+use Rattle.model.proofs.Tests.{Refusal}
 use Rattle.model.proofs.Room.{by-queue}
 use Rattle.model.proofs.Formed.{read-untouched}
-use Rattle.model.proofs.Rings.{listed}
-use Rattle.model.proofs.Simulation.{Sound, same-final, stays-well-formed}
+use Rattle.model.proofs.Simulation.{same-final, stays-well-formed}
 use Rattle.model.proofs.Laws.{by-outcome, fresh-sound, refusal-changes-nothing}
 
 abbrev settled : Controller → Call → Step Controller

@@ -1,17 +1,14 @@
 -- The table of endings is the definition: by computation over all tests.
 use Prim.Native.Nat.{ℕ, zero, suc}
 use mathlib.Core.Path.{_≡_, refl}
-use mathlib.Core.Bool.{Bool, true, false, cond, not, _&&_, _||_, true≢false, false≢true}
+use mathlib.Core.Bool.{Bool, true, false, cond, not, _&&_, _||_, false≢true}
 use lib.Dec.{eqb}
 use Rattle.bank.specs.declared.Kind.{Kind}
 use Rattle.bank.specs.declared.Kind.the-variants.{Private, Direct, Broadcast}
-use Rattle.bank.specs.declared.Transfer.{Transfer}
-use Rattle.bank.specs.declared.Phase.{Phase}
-use Rattle.bank.specs.declared.Phase.the-variants.{Writing, Reading, Unrequested, Requested, Answered}
-use Rattle.bank.specs.Phases.{private, broadcast, unattached}
+use Rattle.bank.specs.Phases.{private, broadcast}
 use Rattle.bank.proofs.Bools.{and-true}
 use Rattle.model.specs.Calls.{allowed}
-use Rattle.model.specs.Endings.{Codes, codes, permits, none, some, all, empty, endings, endingsOf, Endings}
+use Rattle.model.specs.Endings.{none, some, all, empty, endings, Endings}
 
 abbrev same : Bool → Bool → Bool
 same true b = b

@@ -1,5 +1,5 @@
 -- Each call keeps what ties the tally to the lists: one lemma for each call.
-use Prim.Native.Nat.{ℕ, suc, _+_, _-_, _/_, _%_, _^_, _≤_, zero-le}
+use Prim.Native.Nat.{ℕ, suc, _-_, _/_, _%_, _^_, zero-le}
 use native.Mathlib.Omega.{arith}
 use mathlib.Core.Path.{_≡_, refl, ap, sym, _∙_, subst}
 use mathlib.Core.Bool.{Bool, true, false, cond, not, true≢false, false≢true}

@@ -1,22 +1,22 @@
 -- What ties a tally to a bank that is released, and how each event keeps it.
-use Prim.Native.Nat.{ℕ, zero, suc, _+_, _-_, _%_, _≤_, _<_, zero-le}
+use Prim.Native.Nat.{ℕ, suc, _+_, _-_, _%_, _≤_, _<_, zero-le}
 use native.Mathlib.Omega.{arith}
 use mathlib.Core.Path.{_≡_, refl, ap, sym, _∙_, subst}
 use mathlib.Core.Bool.{Bool, true, false, cond, not, _&&_, _||_, true≢false, false≢true}
-use mathlib.Core.List.{List, [], _∷_, _++_, append-assoc, append-nil, concat-ne-nil}
+use mathlib.Core.List.{List, [], _∷_, _++_, append-assoc, append-nil}
 use mathlib.Core.Option.{Option, none, some}
-use lib.Dec.{leb, ltb, eqb}
+use lib.Dec.{ltb}
 use lib.ListN.{length, length-append, drop}
 use lib.Seq.{append-snoc}
 use borrow.Author.Tests.{ltb-true, not-true}
 use Rattle.bank.specs.declared.Phase.{Phase}
-use Rattle.bank.specs.declared.Phase.the-variants.{Idle, Writing, Reading, Unrequested, Requested, Answered}
+use Rattle.bank.specs.declared.Phase.the-variants.{Idle, Writing, Reading, Unrequested}
 use Rattle.bank.specs.Phases.{idle, writing, reading, assigning, transfer}
 use Rattle.model.specs.View.{bit, QueueView}
-use Rattle.model.specs.Commands.{Command, Single, Ccc, twoWords, firstWord, isEntdaa, isRead, isWrite, lengthOf, opened, begun, receiptWord}
+use Rattle.model.specs.Commands.{Command, twoWords, firstWord, isEntdaa, isRead, isWrite, lengthOf, opened, begun, receiptWord}
 use Rattle.model.specs.Calls.{whole, command, wordCount}
-use Rattle.model.specs.Lists.{ListQueue, viewList}
-use Rattle.model.specs.Demand.{Written, wrote, sawRoom, started, sent, received, addressed, finished, CmdLog, Ending, Run, snoc, opt, countWord, countRun, change, newRun, takenWords, Every, joined, Each, moved, Fitting, ReceiptOf, hasEnded, receiptsOf, receiptIn}
+use Rattle.model.specs.Lists.{viewList}
+use Rattle.model.specs.Demand.{Written, wrote, sawRoom, finished, CmdLog, Run, snoc, opt, countWord, countRun, change, newRun, takenWords, Every, joined, Each, moved, Fitting, ReceiptOf, hasEnded, receiptsOf, receiptIn}
 use Rattle.model.proofs.Cut.{CutAs, WellCut, well-snoc, joined-append}
 
 -- ── The invariant ─────────────────────────────────────────────────────────────────────────────────────────────

@@ -1,36 +1,35 @@
 -- The other laws of `step`: engines agree, refusals change nothing, a store keeps its length, queues not named stay.
 use Prim.Native.Nat.{ℕ}
 use mathlib.Core.Path.{_≡_, refl, ap, ap₂, sym, _∙_, subst}
-use mathlib.Core.Bool.{Bool, true, false, cond, not, _||_, true≢false, false≢true}
+use mathlib.Core.Bool.{Bool, true, false, cond, not, true≢false, false≢true}
 use mathlib.Core.List.{List, [], _∷_}
 use mathlib.Core.Option.{Option, none, some}
 use lib.Dec.{eqb}
 use lib.ListN.{length}
-use borrow.Author.Tests.{eq-eqb, ne-eqb, eqb-true, not-false}
+use borrow.Author.Tests.{ne-eqb, eqb-true}
 use Rattle.ring.specs.Ring.{entries}
 use Rattle.bank.specs.declared.Bank.{Bank}
 use Rattle.bank.specs.declared.Sizes.{Sizes}
-use Rattle.bank.specs.Phases.{transfer}
-use Rattle.bank.specs.SetUp.{bankOf, setUp, total}
+use Rattle.bank.specs.SetUp.{setUp, total}
 use Rattle.bank.specs.Formed.{wellFormed}
 use Rattle.bank.proofs.Bools.{or-left, or-right}
-use Rattle.bank.proofs.Laws.{Formed, formed-of, bank-is, fresh-formed, ready}
+use Rattle.bank.proofs.Laws.{formed-of, bank-is, fresh-formed, ready}
 use Rattle.registers.specs.Map.{registerAt}
 use Rattle.model.specs.declared.Call.{Call}
 use Rattle.model.specs.declared.Call.the-variants.{Read, Write, Start, Send, Receive, Finish, Interrupt, Request, Take}
 use Rattle.bank.specs.declared.Answer.{Answer}
-use Rattle.model.specs.View.{bit, Queue, Cmd, Cmdr, Sdo, Sdi, Ibi, Five, of, View}
-use Rattle.model.specs.Decision.{QueueOp, keep, keepAll, only, Effect, Decision, first, effect}
+use Rattle.model.specs.View.{bit, Queue, Cmd, Cmdr, Sdo, Sdi, Ibi, of, View}
+use Rattle.model.specs.Decision.{QueueOp, keep, keepAll, only, Decision, first, effect}
 use Rattle.model.specs.Registers.{Row, absent, shows, holds, pushes, takes, enables, acknowledges, row, enable, read, write}
 use Rattle.model.specs.Calls.{decide, start, send, receive, finish, interrupt, request, takeAddress}
 use Rattle.model.specs.Engine.{Step, outcome, step, final, answers}
-use Rattle.model.specs.Rings.{Controller, Area, areas, wordsIn, viewRings, onRing, onRings, onStores, settleRings, guardRings, rings}
-use Rattle.model.specs.Lists.{ListQueue, Lists, lists, onWords}
-use Rattle.model.specs.Laws.{fresh, freshLists, Agreement, EnginesAgree, RefusalChangesNothing, StoreKeepsLength, same, readNames, writeNames, names, OthersStay}
+use Rattle.model.specs.Rings.{Controller, Area, areas, wordsIn, viewRings, onRing, settleRings, guardRings, rings}
+use Rattle.model.specs.Lists.{Lists, lists, onWords}
+use Rattle.model.specs.Laws.{fresh, freshLists, EnginesAgree, RefusalChangesNothing, StoreKeepsLength, same, readNames, writeNames, names, OthersStay}
 use Rattle.model.proofs.Tests.{Passed, passed, Refusal, refusal}
 use Rattle.model.proofs.Numbers.{zeroOr19, effect-number, all-refusals}
 use Rattle.model.proofs.Room.{fits}
-use Rattle.model.proofs.Rings.{listQueue, listed, length-all, base-same, settled-words, onArea}
+use Rattle.model.proofs.Rings.{listed, length-all, base-same, settled-words, onArea}
 use Rattle.model.proofs.Simulation.{Sound, same-answer, stays-sound, same-final}
 
 -- ── A step is refused by a number, or settled ─────────────────────────────────────────────────────────────────

@@ -13,14 +13,13 @@ use Rattle.bank.specs.Phases.{idle}
 use Rattle.registers.specs.Map.{registerAt}
 use Rattle.model.specs.declared.Call.{Call}
 use Rattle.model.specs.declared.Call.the-variants.{Read, Write, Start, Send, Receive, Finish, Interrupt, Request, Take}
-use Rattle.model.specs.View.{View}
 use Rattle.model.specs.Decision.{first, effect}
 use Rattle.model.specs.Commands.{Command, firstWord, lengthOf}
-use Rattle.model.specs.Registers.{row, read, write}
+use Rattle.model.specs.Registers.{row}
 use Rattle.model.specs.Calls.{decide, start, send, receive, finish, interrupt, request, takeAddress}
 use Rattle.model.specs.Engine.{outcome, step, final}
 use Rattle.model.specs.Lists.{Lists, viewLists, settleLists, lists}
-use Rattle.model.specs.Demand.{Event, bus, addressed, other, Written, Tally, Run, event, follow, tally, cut, joined, takenWords, allWords, Every, opt, Each, moved, ReceiptOf, Fitting, AllEnded, isOpen, receiptsOf, runs, commands, Demand3}
+use Rattle.model.specs.Demand.{Event, bus, addressed, other, Written, Tally, Run, event, follow, tally, cut, joined, takenWords, allWords, Every, opt, Each, moved, ReceiptOf, Fitting, AllEnded, isOpen, receiptsOf, Demand3}
 use Rattle.model.proofs.Cut.{WellCut, cut-joined, joined-append}
 use Rattle.model.proofs.Invariant.{OpenAs, OpenIn, Done, OrderOk, each-append, receipts-append}
 use Rattle.model.proofs.Tests.{Passed, passed, Refusal, refusal}

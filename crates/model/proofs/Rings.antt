@@ -1,5 +1,5 @@
 -- The rings do what the lists do.
-use Prim.Native.Nat.{ℕ, _+_, _≤_, _<_, zero-le}
+use Prim.Native.Nat.{ℕ, _+_, _≤_, _<_}
 use native.Mathlib.Omega.{arith}
 use mathlib.Core.Path.{_≡_, refl, ap, sym, _∙_, subst}
 use mathlib.Core.List.{List, [], _∷_, _++_, append-assoc}
@@ -12,9 +12,9 @@ use Rattle.ring.proofs.Laws.{place-below, entries-length, entries-push, entries
 use Rattle.bank.specs.declared.Queues.{Queues}
 use Rattle.bank.specs.SetUp.{total}
 use Rattle.bank.proofs.Laws.{Ready}
-use Rattle.model.specs.View.{Queue, Cmd, Cmdr, Sdo, Sdi, Ibi, Five, each, of, View}
+use Rattle.model.specs.View.{Queue, Cmd, Cmdr, Sdo, Sdi, Ibi, Five, each, of}
 use Rattle.model.specs.Decision.{QueueOp, keep, clear, take, push, push2, Effect}
-use Rattle.model.specs.Rings.{Controller, Area, area, cmdrAt, sdoAt, sdiAt, ibiAt, areas, wordsIn, viewArea, viewQueues, viewRings, onRing, onStore, onRings, onStores, settleRings}
+use Rattle.model.specs.Rings.{Controller, Area, area, areas, wordsIn, viewArea, viewQueues, viewRings, onRing, onStore, onRings, onStores, settleRings}
 use Rattle.model.specs.Lists.{ListQueue, Lists, viewList, viewLists, onWords, onList, settleLists}
 use Rattle.model.proofs.Room.{Fits, AllFit, by-queue}
 

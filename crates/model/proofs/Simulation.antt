@@ -16,7 +16,7 @@ use Rattle.model.specs.View.{View}
 use Rattle.model.specs.Decision.{first, Effect, effect}
 use Rattle.model.specs.Calls.{decide}
 use Rattle.model.specs.Engine.{Step, outcome, step, final}
-use Rattle.model.specs.Rings.{Controller, areas, viewRings, settleRings, guardRings, rings}
+use Rattle.model.specs.Rings.{Controller, viewRings, settleRings, guardRings, rings}
 use Rattle.model.specs.Lists.{Lists, settleLists, lists}
 use Rattle.model.specs.Laws.{IllFormed, WrongLength, SetUpWellFormed, StaysWellFormed}
 use Rattle.model.proofs.Tests.{Passed, passed}

@@ -1,10 +1,10 @@
 -- The tests of a decision: what is known where none holds, and where one does.
-use Prim.Native.Nat.{ℕ, zero, suc}
-use mathlib.Core.Path.{_≡_, refl, ap, sym, _∙_, subst}
+use Prim.Native.Nat.{ℕ}
+use mathlib.Core.Path.{_≡_, refl, sym, subst}
 use mathlib.Core.Bool.{Bool, true, false, not, _&&_, false≢true}
-use mathlib.Core.Option.{Option, none, some, Option·none-ne-some, Option·some-injective}
+use mathlib.Core.Option.{none, some, Option·none-ne-some, Option·some-injective}
 use lib.Dec.{eqb}
-use Rattle.model.specs.Decision.{Effect, Decision, does, _⇒_∣_, first}
+use Rattle.model.specs.Decision.{Decision, does, _⇒_∣_, first}
 
 -- no test holds
 abbrev pub Passed : Decision → Type 0

@@ -17,7 +17,7 @@ use Rattle.model.specs.Decision.{keep, take, push}
 use Rattle.model.specs.Calls.{send, receive, advanced, fresh, fills}
 use Rattle.model.specs.Rings.{area, onRing, onStore, sdoAt, sdiAt}
 use Rattle.answer.specs.Given.{view, number, given, doneNext, decided}
-use Rattle.answer.proofs.Laws.{cleared, served-by, take-writes-none}
+use Rattle.answer.proofs.Laws.{cleared, served-by, take-writes-none, room-of}
 
 -- ── Send ──────────────────────────────────────────────────────────────────────────────────────────────────────
 pub record Sends (s : View) : Type 0 where
@@ -55,10 +55,6 @@ pub record Receives (s : View) : Type 0 where
   pub reads : reading (s .phase) ≡ true
   pub below : transfer (s .phase) .moved .0 < transfer (s .phase) .length .0
   pub room : fills (transfer (s .phase)) ≡ true → s .queues .sdi .level < s .queues .sdi .cap
-
-room-of : (a : Bool) (cap level : ℕ) → (a && leb cap level) ≡ false → a ≡ true → level < cap
-room-of true cap level e h = leb-false cap level e
-room-of false cap level e h = absurd (false≢true h)
 
 pub receives : (s : View) (byte : ℕ) → number (receive s byte) ≡ 0 → Receives s
 unfolding receive

@@ -2,7 +2,6 @@
 ghost use mathlib.Core.Path.{_≡_};
 ghost use Prim.Native.Nat.{ℕ, _+_, _-_, _*_, _%_, _^_, _<_, _≤_};
 ghost use mathlib.Core.List.{List};
-ghost use Rattle.bank.specs.Phases.{transfer};
 ghost use Rattle.model.specs.View.{Tables};
 ghost use Rattle.model.specs.Calls.{advanced, send, receive};
 ghost use Rattle.answer.specs.Given.{view, number, given, decided, Open};

@@ -1,17 +1,14 @@
 -- Looking an offset up in the map.
-use Prim.Native.Nat.{ℕ, _+_, _-_, _/_, _%_, _<_, _≤_}
+use Prim.Native.Nat.{ℕ, _-_, _/_, _%_, _<_, _≤_}
 use native.Mathlib.Omega.{arith}
-use mathlib.Core.Path.{_≡_, refl, _∙_}
-use mathlib.Core.Bool.{Bool, false}
+use mathlib.Core.Path.{_≡_, refl}
 use mathlib.Core.List.{List, [], _∷_}
-use mathlib.Core.Logic.{_⊎_}
-use lib.Dec.{eqb}
 use mir.Val.{Fits}
 use mir.Syntax.{w16, w32}
 use borrow.Author.Tests.{le-leb, lt-leb, eq-eqb, ne-eqb}
 use Rattle.registers.specs.declared.Register.{Register}
 use Rattle.registers.specs.declared.Register.the-variants.{OffloadCmd, OffloadSdo, Unmapped}
-use Rattle.registers.specs.Map.{Entry, named, find, within, offload, registerAt}
+use Rattle.registers.specs.Map.{Entry, named, find, offload, registerAt}
 
 -- that o is the offset of no row, as a `match` tells it
 abbrev pub AbsentFrom : Type 0 → ℕ → List Entry → Type 0

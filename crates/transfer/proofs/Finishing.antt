@@ -2,7 +2,7 @@
 use Prim.Native.Nat.{ℕ, _-_, _*_, _%_, _^_, _<_, _≤_}
 use native.Mathlib.Omega.{arith}
 use mathlib.Core.Path.{_≡_, refl}
-use mathlib.Core.Bool.{Bool, true, false, cond, _&&_, _||_, false≢true}
+use mathlib.Core.Bool.{Bool, true, false, cond, _&&_, _||_}
 use mathlib.Core.List.{List}
 use lib.Dec.{eqb, leb, ltb}
 use borrow.Author.Tests.{leb-true, leb-false, ltb-true, ltb-false}
@@ -18,16 +18,12 @@ use Rattle.model.specs.Commands.{receiptWord}
 use Rattle.model.specs.Calls.{finish, padded, receipted}
 use Rattle.model.specs.Rings.{area, onRing, onStore, cmdrAt, sdiAt}
 use Rattle.answer.specs.Given.{view, number, given, doneNext, decided}
-use Rattle.answer.proofs.Laws.{cleared, served-by}
+use Rattle.answer.proofs.Laws.{cleared, served-by, room-of}
 
 pub record Finishes (s : View) (code : ℕ) : Type 0 where
   pub coded : code ≤ 15
   pub receipts : s .queues .cmdr .level < s .queues .cmdr .cap
   pub words : padded (s .phase) ≡ true → s .queues .sdi .level < s .queues .sdi .cap
-
-room-of : (a : Bool) (cap level : ℕ) → (a && leb cap level) ≡ false → a ≡ true → level < cap
-room-of true cap level e h = leb-false cap level e
-room-of false cap level e h = absurd (false≢true h)
 
 pub finishes : (s : View) (code : ℕ) → number (finish s code) ≡ 0 → Finishes s code
 unfolding finish

@@ -1,7 +1,7 @@
 -- What the words of a command say.
 use Prim.Native.Nat.{ℕ, _/_, _%_}
-use mathlib.Core.Path.{_≡_, refl, sym, _∙_}
-use mathlib.Core.Bool.{Bool, true, false, cond, not, _&&_, true≢false, false≢true}
+use mathlib.Core.Path.{_≡_, refl}
+use mathlib.Core.Bool.{Bool, true, false, cond, not, _&&_, false≢true}
 use lib.Dec.{eqb}
 use borrow.Author.Tests.{not-false}
 use Rattle.bank.specs.declared.Kind.the-variants.{Private, Direct, Broadcast}

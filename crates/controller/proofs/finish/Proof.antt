@@ -1,3 +1,4 @@
+-- `controller::finish` meets its contract.
 use Rattle.answer.specs.Given.{tablesOf}
 use Rattle.model.specs.declared.Call.the-variants.{Finish}
 use mathlib.Core.Path.{sym, _∙_}
@@ -5,44 +6,31 @@ use Rattle.controller.proofs.Guards.{faulty, sound, opens}
 use borrow.Author.Needs.{needs}
 use Rattle.controller.proofs.finish.Statement.{statement}
 use Rattle.controller.proofs.finish.Tie as tie
-use Rattle.controller.proofs.finish.Reads as reads
-use Rattle.controller.proofs.finish.Lts as lts
-use Rattle.controller.proofs.fault.Reads as fault-reads
-use Rattle.controller.proofs.refuse.Reads as refuse-reads
-use Rattle.controller.proofs.with_state.Reads as with-state-reads
-use Rattle.transfer.proofs.finish.Reads as finish-reads
 
--- src/lib.rt:141:9
 fault-requires : tie.Need-fault-requires
 fault-requires c κs = search needs
 
--- src/lib.rt:143:9
 refuse-requires : tie.Need-refuse-requires
 refuse-requires c κs = search needs
 
--- src/lib.rt:143:9
 returns : tie.Need-returns
 returns c = let a = c .before .before .before .before in
     let b = a .args .b in
     let s = a .args .store .now in
     rw (c .refuse .ensures) (faulty b s (Finish (a .args .code)) _ (c .before .if1 .taken) (c .before .before .fault .ensures))
 
--- src/lib.rt:145:9
 finish-requires : tie.Need-finish-requires
 finish-requires c κs = let a = c .before .before .before .before in
     let b = a .args .b in
     let s = a .args .store .now in
     opens b s (sym (c .before .before .fault .ensures) ∙ c .before .if1 .left)
 
--- src/lib.rt:146:5
 with-state-requires : tie.Need-with-state-requires
 with-state-requires c κs = search needs
 
--- src/lib.rt:138:1
 same-length : tie.Need-same-length
 same-length c = search needs
 
--- src/lib.rt:138:1
 returns-2 : tie.Need-returns-2
 returns-2 c = let a = c .before .before .before .before .before .before .before .before in
     let b = a .args .b in

@@ -1,3 +1,4 @@
+-- `controller::interrupt` meets its contract.
 use mathlib.Core.Path.{refl}
 use Rattle.answer.specs.Given.{tablesOf}
 use Rattle.model.specs.declared.Call.the-variants.{Interrupt}
@@ -6,44 +7,31 @@ use Rattle.controller.proofs.Guards.{faulty, sound, opens}
 use borrow.Author.Needs.{needs}
 use Rattle.controller.proofs.interrupt.Statement.{statement}
 use Rattle.controller.proofs.interrupt.Tie as tie
-use Rattle.controller.proofs.interrupt.Reads as reads
-use Rattle.controller.proofs.interrupt.Lts as lts
-use Rattle.controller.proofs.fault.Reads as fault-reads
-use Rattle.controller.proofs.refuse.Reads as refuse-reads
-use Rattle.controller.proofs.with_state.Reads as with-state-reads
-use Rattle.requests.proofs.interrupt.Reads as interrupt-reads
 
--- src/lib.rt:153:9
 fault-requires : tie.Need-fault-requires
 fault-requires c κs = search needs
 
--- src/lib.rt:155:9
 refuse-requires : tie.Need-refuse-requires
 refuse-requires c κs = search needs
 
--- src/lib.rt:155:9
 returns : tie.Need-returns
 returns c = let a = c .before .before .before .before in
     let b = a .args .b in
     let s = a .args .store .now in
     rw (c .refuse .ensures) (faulty b s (Interrupt (a .args .address) (a .args .byte)) _ (c .before .if1 .taken) (c .before .before .fault .ensures))
 
--- src/lib.rt:158:9
 interrupt-requires : tie.Need-interrupt-requires
 interrupt-requires c κs = let a = c .before .before .before .before .before .before in
     let b = a .args .b in
     let s = a .args .store .now in
     opens b s (sym (c .before .before .before .before .fault .ensures) ∙ c .before .before .before .if1 .left)
 
--- src/lib.rt:159:5
 with-state-requires : tie.Need-with-state-requires
 with-state-requires c κs = search needs
 
--- src/lib.rt:150:1
 same-length : tie.Need-same-length
 same-length c = search needs
 
--- src/lib.rt:150:1
 returns-2 : tie.Need-returns-2
 returns-2 c = let a = c .before .before .before .before .before .before .before .before .before .before in
     let b = a .args .b in

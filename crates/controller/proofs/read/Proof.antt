@@ -1,3 +1,4 @@
+-- `controller::read` meets its contract.
 use Rattle.read.specs.At.{readAt}
 use Rattle.model.specs.declared.Call.the-variants.{Read}
 use mathlib.Core.Path.{sym, _∙_}
@@ -5,40 +6,28 @@ use Rattle.controller.proofs.Guards.{faulty, sound, opens}
 use borrow.Author.Needs.{needs}
 use Rattle.controller.proofs.read.Statement.{statement}
 use Rattle.controller.proofs.read.Tie as tie
-use Rattle.controller.proofs.read.Reads as reads
-use Rattle.controller.proofs.read.Lts as lts
-use Rattle.controller.proofs.fault.Reads as fault-reads
-use Rattle.controller.proofs.refuse.Reads as refuse-reads
-use Rattle.controller.proofs.with_state.Reads as with-state-reads
-use Rattle.read.proofs.read.Reads as read-reads
 
--- src/lib.rt:74:9
 fault-requires : tie.Need-fault-requires
 fault-requires c κs = search needs
 
--- src/lib.rt:76:9
 refuse-requires : tie.Need-refuse-requires
 refuse-requires c κs = search needs
 
--- src/lib.rt:76:9
 returns : tie.Need-returns
 returns c = let a = c .before .before .before .before in
     let b = a .args .b in
     let s = a .args .store .now in
     rw (c .refuse .ensures) (faulty b s (Read (a .args .offset)) _ (c .before .if1 .taken) (c .before .before .fault .ensures))
 
--- src/lib.rt:81:9
 read-requires : tie.Need-read-requires
 read-requires c κs = let a = c .before .before .before .before .before .before .before .before .before in
     let b = a .args .b in
     let s = a .args .store .now in
     opens b s (sym (c .before .before .before .before .before .before .before .fault .ensures) ∙ c .before .before .before .before .before .before .if1 .left)
 
--- src/lib.rt:82:5
 with-state-requires : tie.Need-with-state-requires
 with-state-requires c κs = search needs
 
--- src/lib.rt:71:1
 returns-2 : tie.Need-returns-2
 unfolding readAt
 returns-2 c = let a = c .before .before .before .before .before .before .before .before .before .before .before in

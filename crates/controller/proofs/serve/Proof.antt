@@ -1,3 +1,4 @@
+-- `controller::serve` meets its contract.
 use Rattle.write.specs.At.{writeAt}
 use Rattle.read.specs.At.{readAt}
 use Rattle.answer.specs.Given.{tables, view, decided}
@@ -7,95 +8,64 @@ use mathlib.Core.Path.{refl, ap, sym, _∙_}
 use borrow.Author.Needs.{needs}
 use Rattle.controller.proofs.serve.Statement.{statement}
 use Rattle.controller.proofs.serve.Tie as tie
-use Rattle.controller.proofs.serve.Reads as reads
-use Rattle.controller.proofs.serve.Lts as lts
-use Rattle.payload.proofs.receive.Reads as receive-reads
-use Rattle.payload.proofs.send.Reads as send-reads
-use Rattle.read.proofs.read.Reads as read-reads
-use Rattle.requests.proofs.interrupt.Reads as interrupt-reads
-use Rattle.requests.proofs.request.Reads as request-reads
-use Rattle.requests.proofs.take_address.Reads as take-address-reads
-use Rattle.transfer.proofs.finish.Reads as finish-reads
-use Rattle.transfer.proofs.start.Reads as start-reads
-use Rattle.write.proofs.write.Reads as write-reads
 
--- src/lib.rt:199:20
 enum-known-call : tie.Need-enum-known-call
 enum-known-call c = search needs
 
--- src/lib.rt:199:31
 read-requires : tie.Need-read-requires
 read-requires c κs = search needs
 
--- src/lib.rt:200:21
 enum-known-call-2 : tie.Need-enum-known-call-2
 enum-known-call-2 c = search needs
 
--- src/lib.rt:200:35
 write-requires : tie.Need-write-requires
 write-requires c κs = search needs
 
--- src/lib.rt:201:44
 enum-told : tie.Need-enum-told
 enum-told c = search needs
 
--- src/lib.rt:201:24
 start-requires : tie.Need-start-requires
 start-requires c κs = search needs
 
--- src/lib.rt:202:41
 enum-told-2 : tie.Need-enum-told-2
 enum-told-2 c = search needs
 
--- src/lib.rt:202:23
 send-requires : tie.Need-send-requires
 send-requires c κs = search needs
 
--- src/lib.rt:203:23
 enum-known-call-3 : tie.Need-enum-known-call-3
 enum-known-call-3 c = search needs
 
--- src/lib.rt:203:32
 receive-requires : tie.Need-receive-requires
 receive-requires c κs = search needs
 
--- src/lib.rt:204:22
 enum-known-call-4 : tie.Need-enum-known-call-4
 enum-known-call-4 c = search needs
 
--- src/lib.rt:204:31
 finish-requires : tie.Need-finish-requires
 finish-requires c κs = search needs
 
--- src/lib.rt:205:25
 enum-known-call-5 : tie.Need-enum-known-call-5
 enum-known-call-5 c = search needs
 
--- src/lib.rt:205:43
 interrupt-requires : tie.Need-interrupt-requires
 interrupt-requires c κs = search needs
 
--- src/lib.rt:206:23
 enum-known-call-6 : tie.Need-enum-known-call-6
 enum-known-call-6 c = search needs
 
--- src/lib.rt:206:32
 request-requires : tie.Need-request-requires
 request-requires c κs = search needs
 
--- src/lib.rt:207:50
 enum-told-3 : tie.Need-enum-told-3
 enum-told-3 c = search needs
 
--- src/lib.rt:207:23
 take-address-requires : tie.Need-take-address-requires
 take-address-requires c κs = search needs
 
--- src/lib.rt:187:1
 same-length : tie.Need-same-length
 same-length c = search needs
 
--- src/lib.rt:187:1
 returns : tie.Need-returns
 unfolding readAt
 returns c = let a = c .before .before .before .before .before .before .before .before .before in
@@ -104,11 +74,9 @@ returns c = let a = c .before .before .before .before .before .before .before .b
     let s = a .args .store .now in
     c .read .ensures ∙ ap (λ (k : Call). decided st t s (decide (view st t s) k)) (sym (c .before .before .before .before .before .before .call .given .1))
 
--- src/lib.rt:187:1
 same-length-2 : tie.Need-same-length-2
 same-length-2 c = search needs
 
--- src/lib.rt:187:1
 returns-2 : tie.Need-returns-2
 unfolding writeAt
 returns-2 c = let a = c .before .before .before .before .before .before .before .before .before .before .before in
@@ -117,11 +85,9 @@ returns-2 c = let a = c .before .before .before .before .before .before .before 
     let s = a .args .store .now in
     c .before .before .write .ensures ∙ ap (λ (k : Call). decided st t s (decide (view st t s) k)) (sym (c .before .before .before .before .before .before .before .before .call2 .given .1))
 
--- src/lib.rt:187:1
 same-length-3 : tie.Need-same-length-3
 same-length-3 c = search needs
 
--- src/lib.rt:187:1
 returns-3 : tie.Need-returns-3
 returns-3 c = let a = c .before .before .before .before .before .before in
     let st = a .args .st in
@@ -129,11 +95,9 @@ returns-3 c = let a = c .before .before .before .before .before .before in
     let s = a .args .store .now in
     c .start .ensures (a .args .commands .now) (a .args .payloads .now) ∙ ap (λ (k : Call). decided st t s (decide (view st t s) k)) (sym (c .before .before .before .enum-told .given .1))
 
--- src/lib.rt:187:1
 same-length-4 : tie.Need-same-length-4
 same-length-4 c = search needs
 
--- src/lib.rt:187:1
 returns-4 : tie.Need-returns-4
 returns-4 c = let a = c .before .before .before .before .before in
     let st = a .args .st in
@@ -141,11 +105,9 @@ returns-4 c = let a = c .before .before .before .before .before in
     let s = a .args .store .now in
     c .send .ensures t ∙ ap (λ (k : Call). decided st t s (decide (view st t s) k)) (sym (c .before .before .enum-told2 .given .1))
 
--- src/lib.rt:187:1
 same-length-5 : tie.Need-same-length-5
 same-length-5 c = search needs
 
--- src/lib.rt:187:1
 returns-5 : tie.Need-returns-5
 returns-5 c = let a = c .before .before .before .before .before .before .before .before in
     let st = a .args .st in
@@ -153,11 +115,9 @@ returns-5 c = let a = c .before .before .before .before .before .before .before 
     let s = a .args .store .now in
     c .before .before .receive .ensures t ∙ ap (λ (k : Call). decided st t s (decide (view st t s) k)) (sym (c .before .before .before .before .before .call3 .given .1))
 
--- src/lib.rt:187:1
 same-length-6 : tie.Need-same-length-6
 same-length-6 c = search needs
 
--- src/lib.rt:187:1
 returns-6 : tie.Need-returns-6
 returns-6 c = let a = c .before .before .before .before .before .before .before .before in
     let st = a .args .st in
@@ -165,11 +125,9 @@ returns-6 c = let a = c .before .before .before .before .before .before .before 
     let s = a .args .store .now in
     c .before .before .finish .ensures t ∙ ap (λ (k : Call). decided st t s (decide (view st t s) k)) (sym (c .before .before .before .before .before .call4 .given .1))
 
--- src/lib.rt:187:1
 same-length-7 : tie.Need-same-length-7
 same-length-7 c = search needs
 
--- src/lib.rt:187:1
 returns-7 : tie.Need-returns-7
 returns-7 c = let a = c .before .before .before .before .before .before .before .before .before in
     let st = a .args .st in
@@ -177,11 +135,9 @@ returns-7 c = let a = c .before .before .before .before .before .before .before 
     let s = a .args .store .now in
     c .before .before .interrupt .ensures t refl ∙ ap (λ (k : Call). decided st t s (decide (view st t s) k)) (sym (c .before .before .before .before .before .before .call5 .given .1))
 
--- src/lib.rt:187:1
 same-length-8 : tie.Need-same-length-8
 same-length-8 c = search needs
 
--- src/lib.rt:187:1
 returns-8 : tie.Need-returns-8
 returns-8 c = let a = c .before .before .before .before .before .before .before .before in
     let st = a .args .st in
@@ -189,11 +145,9 @@ returns-8 c = let a = c .before .before .before .before .before .before .before 
     let s = a .args .store .now in
     c .before .before .request .ensures t ∙ ap (λ (k : Call). decided st t s (decide (view st t s) k)) (sym (c .before .before .before .before .before .call6 .given .1))
 
--- src/lib.rt:187:1
 same-length-9 : tie.Need-same-length-9
 same-length-9 c = search needs
 
--- src/lib.rt:187:1
 returns-9 : tie.Need-returns-9
 returns-9 c = let a = c .before .before .before .before .before in
     let st = a .args .st in

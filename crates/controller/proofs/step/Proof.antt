@@ -1,46 +1,34 @@
+-- `controller::step` meets its contract.
 use mathlib.Core.Path.{sym, _∙_}
 use Rattle.controller.proofs.Guards.{faulty, sound, opens}
 use borrow.Author.Needs.{needs}
 use Rattle.controller.proofs.step.Statement.{statement}
 use Rattle.controller.proofs.step.Tie as tie
-use Rattle.controller.proofs.step.Reads as reads
-use Rattle.controller.proofs.step.Lts as lts
-use Rattle.controller.proofs.fault.Reads as fault-reads
-use Rattle.controller.proofs.refuse.Reads as refuse-reads
-use Rattle.controller.proofs.serve.Reads as serve-reads
-use Rattle.controller.proofs.with_tables.Reads as with-tables-reads
 
--- src/lib.rt:215:9
 fault-requires : tie.Need-fault-requires
 fault-requires c κs = search needs
 
--- src/lib.rt:217:9
 refuse-requires : tie.Need-refuse-requires
 refuse-requires c κs = search needs
 
--- src/lib.rt:217:9
 returns : tie.Need-returns
 returns c = let a = c .before .before .before .before in
     let b = a .args .b in
     let s = a .args .store .now in
     rw (c .refuse .ensures) (faulty b s (a .args .call) _ (c .before .if1 .taken) (c .before .before .fault .ensures))
 
--- src/lib.rt:222:9
 serve-requires : tie.Need-serve-requires
 serve-requires c κs = let a = c .before .before .before .before .before .before .before .before .before .before in
     let b = a .args .b in
     let s = a .args .store .now in
     opens b s (sym (c .before .before .before .before .before .before .before .before .fault .ensures) ∙ c .before .before .before .before .before .before .before .if1 .left)
 
--- src/lib.rt:223:5
 with-tables-requires : tie.Need-with-tables-requires
 with-tables-requires c κs = search needs
 
--- src/lib.rt:212:1
 same-length : tie.Need-same-length
 same-length c = search needs
 
--- src/lib.rt:212:1
 returns-2 : tie.Need-returns-2
 returns-2 c = let a = c .before .before .before .before .before .before .before .before .before .before .before .before .before .before in
     let b = a .args .b in

@@ -1,6 +1,4 @@
 -- `registers::register_at` meets its contract.
-use borrow.Author.Needs.{needs}
-use native.Mathlib.Omega.{arith}
 use mathlib.Core.Path.{sym, ap}
 use Rattle.registers.specs.Map.{registerAt, named, find}
 use Rattle.registers.proofs.Lookup as laws

@@ -1,0 +1,11 @@
+-- What a call in place leaves: the bank and the store where they lie, and its answer.
+use Prim.Native.Nat.{ℕ}
+use mathlib.Core.List.{List}
+use Rattle.bank.specs.declared.Bank.{Bank}
+use Rattle.bank.specs.declared.Answer.{Answer}
+use Rattle.model.specs.Engine.{Step}
+use Rattle.model.specs.Rings.{Controller}
+use Rattle.answer.specs.Given.{controller}
+
+abbrev pub left : Bank → Answer → List ℕ → Step Controller
+left b a s = record { answer = a; next = controller b s }

@@ -1,0 +1,1010 @@
+//! The model: five queues, the register file, one transfer and the bus events.
+//!
+//! Comments name the clause they follow: "01" is the scope page, "001" the
+//! register page, "004" the control interface.
+
+use std::collections::VecDeque;
+
+/// What a call returns. 01, Numbers: "Each call returns a value and a number;
+/// the value is 0 where none is named."
+#[derive(Clone, Copy, Debug, PartialEq, Eq)]
+pub struct Answer {
+    pub value: u32,
+    pub number: u8,
+}
+
+fn done(value: u32) -> Answer {
+    Answer { value, number: 0 }
+}
+
+/// 01, Numbers: "Except for 0 and 19 ... the value is 0."
+fn refuse(number: u8) -> Answer {
+    Answer { value: 0, number }
+}
+
+// 01, Numbers, the table.
+const FULL: u8 = 1;
+const READ_ONLY: u8 = 2;
+const EMPTY: u8 = 3;
+const NOT_IN_MAP: u8 = 4;
+const HELD_IN_RESET: u8 = 5;
+const TRANSFER_OPEN: u8 = 6;
+const NO_TRANSFER: u8 = 7;
+const OFFLOAD_MODE: u8 = 8;
+const NO_WHOLE_COMMAND: u8 = 9;
+const NOT_FOR_THIS_KIND: u8 = 10;
+const LENGTH_REACHED: u8 = 11;
+const SDO_EMPTY: u8 = 12;
+const NO_ROOM: u8 = 13;
+const ENDING_NOT_ALLOWED: u8 = 14;
+const SDO_NOT_EMPTY: u8 = 15;
+const NOT_HEARD: u8 = 16;
+const NOT_ACKNOWLEDGED: u8 = 17;
+const OUT_OF_RANGE: u8 = 18;
+const WRONG_PARITY: u8 = 19;
+const NOT_ATTACHED: u8 = 20;
+const NOT_WELL_FORMED: u8 = 21;
+const SETUP_OUT_OF_RANGE: u8 = 23;
+
+/// One call other than set-up.
+#[derive(Clone, Copy, Debug, PartialEq, Eq)]
+pub enum Call {
+    Read { offset: u16 },
+    Write { offset: u16, value: u32 },
+    Start,
+    Send,
+    Receive { byte: u8 },
+    Finish { code: u8 },
+    InterruptRequest { address: u8, byte: u8 },
+    AddressRequest { first: u32, second: u32 },
+    AddressTake,
+}
+
+/// The eleven set-up numbers, queues in the order CMD CMDR SDO SDI IBI.
+/// 01: "Set-up gives five capacities, five watermarks and the ID."
+#[derive(Clone, Copy, Debug, PartialEq, Eq)]
+pub struct SetupNumbers {
+    pub capacities: [u32; 5],
+    pub watermarks: [u32; 5],
+    pub id: u32,
+}
+
+/// 01, A session: "Its bank has every capacity 4, almost-empty watermarks 1,
+/// almost-full 3, ID 0." CMD and SDO have the almost-empty watermarks (001).
+pub const SESSION_NUMBERS: SetupNumbers = SetupNumbers {
+    capacities: [4, 4, 4, 4, 4],
+    watermarks: [1, 3, 1, 3, 3],
+    id: 0,
+};
+
+const ZERO_NUMBERS: SetupNumbers = SetupNumbers {
+    capacities: [0; 5],
+    watermarks: [0; 5],
+    id: 0,
+};
+
+/// 01: "CMD and SDI 2 to 1,024, the others 1 to 1,024."
+const LEAST_CAPACITIES: [u32; 5] = [2, 1, 1, 2, 1];
+const GREATEST_CAPACITY: u32 = 1024;
+/// 01: "ID is 0 to 255."
+const GREATEST_ID: u32 = 255;
+
+impl SetupNumbers {
+    /// 01: capacities in their ranges; "A watermark is 0 to its queue's
+    /// capacity; ID is 0 to 255."
+    fn in_range(&self) -> bool {
+        let queues_in_range = (0..5).all(|queue| {
+            let capacity = self.capacities[queue];
+            capacity >= LEAST_CAPACITIES[queue]
+                && capacity <= GREATEST_CAPACITY
+                && self.watermarks[queue] <= capacity
+        });
+        queues_in_range && self.id <= GREATEST_ID
+    }
+}
+
+/// One queue of 32-bit words.
+#[derive(Clone, Debug, PartialEq, Eq)]
+struct Queue {
+    words: VecDeque<u32>,
+    capacity: u32,
+    watermark: u32,
+}
+
+impl Queue {
+    fn new(capacity: u32, watermark: u32) -> Queue {
+        Queue {
+            words: VecDeque::new(),
+            capacity,
+            watermark,
+        }
+    }
+
+    fn level(&self) -> u32 {
+        self.words.len() as u32
+    }
+
+    /// 01, Register map: "room is capacity less level, also in reset."
+    fn room(&self) -> u32 {
+        self.capacity - self.level()
+    }
+
+    fn is_empty(&self) -> bool {
+        self.level() == 0
+    }
+
+    fn is_full(&self) -> bool {
+        self.room() == 0
+    }
+
+    /// The caller has tested the room.
+    fn push(&mut self, word: u32) {
+        debug_assert!(!self.is_full());
+        self.words.push_back(word);
+    }
+
+    fn take(&mut self) -> Option<u32> {
+        self.words.pop_front()
+    }
+
+    /// 01: "a reset sets heads and levels to 0".
+    fn reset(&mut self) {
+        self.words.clear();
+    }
+
+    /// 01, Source bits: "CMD level below its watermark".
+    fn is_below_watermark(&self) -> bool {
+        self.level() < self.watermark
+    }
+
+    /// 01, Source bits: "CMDR above".
+    fn is_above_watermark(&self) -> bool {
+        self.level() > self.watermark
+    }
+}
+
+/// The registers of 01's map.
+#[derive(Clone, Copy, Debug, PartialEq, Eq)]
+enum Register {
+    Version,
+    Id,
+    Scratch,
+    Enable,
+    IrqMask,
+    IrqPending,
+    IrqSource,
+    CmdRoom,
+    CmdrLevel,
+    SdoRoom,
+    SdiLevel,
+    IbiLevel,
+    Cmd,
+    Cmdr,
+    Sdo,
+    Sdi,
+    Ibi,
+    FifoStatus,
+    Ops,
+    IbiConfig,
+    DevChar,
+    OffloadCommand(usize),
+    OffloadData(usize),
+}
+
+/// 01, number 4: "offset not in the map, or not a multiple of 4".
+fn register_at(offset: u16) -> Option<Register> {
+    if offset % 4 != 0 {
+        return None;
+    }
+    let register = match offset {
+        0x000 => Register::Version,
+        0x004 => Register::Id,
+        0x008 => Register::Scratch,
+        0x040 => Register::Enable,
+        0x080 => Register::IrqMask,
+        0x084 => Register::IrqPending,
+        0x088 => Register::IrqSource,
+        0x0c0 => Register::CmdRoom,
+        0x0c4 => Register::CmdrLevel,
+        0x0c8 => Register::SdoRoom,
+        0x0cc => Register::SdiLevel,
+        0x0d0 => Register::IbiLevel,
+        0x0d4 => Register::Cmd,
+        0x0d8 => Register::Cmdr,
+        0x0dc => Register::Sdo,
+        0x0e0 => Register::Sdi,
+        0x0e4 => Register::Ibi,
+        0x0e8 => Register::FifoStatus,
+        0x100 => Register::Ops,
+        0x140 => Register::IbiConfig,
+        0x180 => Register::DevChar,
+        0x2c0..=0x2fc => Register::OffloadCommand(usize::from(offset - 0x2c0) / 4),
+        0x300..=0x33c => Register::OffloadData(usize::from(offset - 0x300) / 4),
+        _ => return None,
+    };
+    Some(register)
+}
+
+/// 01, Register map: the entries marked read-only; of CMDR, SDI and IBI it says
+/// "write is answer 2".
+fn is_read_only(register: Register) -> bool {
+    matches!(
+        register,
+        Register::Version
+            | Register::Id
+            | Register::IrqSource
+            | Register::CmdRoom
+            | Register::CmdrLevel
+            | Register::SdoRoom
+            | Register::SdiLevel
+            | Register::IbiLevel
+            | Register::Cmdr
+            | Register::Sdi
+            | Register::Ibi
+            | Register::FifoStatus
+    )
+}
+
+/// 01: "The device table holds three flags for each of the 128 device addresses."
+#[derive(Clone, Copy, Debug, Default, PartialEq, Eq)]
+struct Device {
+    sends_byte: bool,
+    may_interrupt: bool,
+    attached: bool,
+}
+
+/// The three source bits that are stored; the other five follow the levels.
+#[derive(Clone, Copy, Debug, Default, PartialEq, Eq)]
+struct Pending {
+    receipt: bool,
+    interrupt: bool,
+    address: bool,
+}
+
+/// What a command asks for. 01: ENTDAA "is neither" a write nor a read.
+#[derive(Clone, Copy, Debug, PartialEq, Eq)]
+enum Kind {
+    Private {
+        header: bool,
+    },
+    DirectCcc,
+    BroadcastCcc,
+    /// `open`: an address request is open; `made`: one was made since start.
+    Entdaa {
+        open: bool,
+        made: bool,
+    },
+}
+
+/// One whole command, taken apart.
+#[derive(Clone, Copy, Debug, PartialEq, Eq)]
+struct Command {
+    kind: Kind,
+    is_read: bool,
+    length: u32,
+    address: u8,
+}
+
+/// 01, Commands: "22 CCC".
+fn is_ccc(first: u32) -> bool {
+    first >> 22 & 1 == 1
+}
+
+/// 01, Commands: "ENTDAA is the code 0x07"; the code is the whole low byte, so
+/// 0x87 is a direct CCC and not ENTDAA.
+const ENTDAA_CODE: u32 = 0x07;
+
+/// 01, Commands: "A CCC takes a second word: bit 7 direct, low byte the code."
+fn ccc_kind(second: u32) -> Kind {
+    if second & 0xff == ENTDAA_CODE {
+        Kind::Entdaa {
+            open: false,
+            made: false,
+        }
+    } else if second >> 7 & 1 == 1 {
+        Kind::DirectCcc
+    } else {
+        Kind::BroadcastCcc
+    }
+}
+
+/// 01, Commands: "21 broadcast header, 20 Sr, 19:8 length, 7:1 address, 0 read".
+/// `second` is present exactly for a CCC.
+fn parse_command(first: u32, second: Option<u32>) -> Command {
+    let kind = match second {
+        Some(word) => ccc_kind(word),
+        None => Kind::Private {
+            header: first >> 21 & 1 == 1,
+        },
+    };
+    // 01, Commands: ENTDAA's "length counts as 0".
+    let length = match kind {
+        Kind::Entdaa { .. } => 0,
+        _ => first >> 8 & 0xfff,
+    };
+    Command {
+        kind,
+        is_read: first & 1 == 1,
+        length,
+        address: (first >> 1 & 0x7f) as u8,
+    }
+}
+
+/// The open transfer.
+#[derive(Clone, Debug, PartialEq, Eq)]
+struct Transfer {
+    command: Command,
+    /// False only for a private transfer or direct CCC whose device was not
+    /// attached at start.
+    attached: bool,
+    /// Payload bytes moved.
+    moved: u32,
+    /// Of the word last taken from SDO, the bytes not yet sent.
+    left: VecDeque<u8>,
+    /// Bytes received that do not yet fill a word.
+    gathered: Vec<u8>,
+}
+
+impl Transfer {
+    fn is_entdaa(&self) -> bool {
+        matches!(self.command.kind, Kind::Entdaa { .. })
+    }
+
+    fn is_write(&self) -> bool {
+        !self.is_entdaa() && !self.command.is_read
+    }
+
+    fn is_read(&self) -> bool {
+        !self.is_entdaa() && self.command.is_read
+    }
+
+    /// 01, Finish: the endings allowed.
+    fn may_end_with(&self, code: u8) -> bool {
+        // "device unattached, code 8 only."
+        if !self.attached {
+            return code == 8;
+        }
+        match self.command.kind {
+            // "ENTDAA, 0 with no request open, 4 with none made since start."
+            Kind::Entdaa { open, made } => match code {
+                0 => !open,
+                4 => !made,
+                _ => false,
+            },
+            Kind::Private { header } => self.may_end_payload(code, false, false, header),
+            Kind::DirectCcc => self.may_end_payload(code, true, false, false),
+            Kind::BroadcastCcc => self.may_end_payload(code, true, true, false),
+        }
+    }
+
+    /// 01, Finish: "For the rest".
+    fn may_end_payload(&self, code: u8, ccc: bool, broadcast: bool, header: bool) -> bool {
+        let none_moved = self.moved == 0;
+        let all_moved = self.moved == self.command.length;
+        match code {
+            // "0 for a write with m = L, a private read with any m, a CCC read
+            // with m = L"
+            0 => all_moved || (self.command.is_read && !ccc),
+            // "1 for a CCC read with m below L"
+            1 => self.command.is_read && ccc && !all_moved,
+            // "4 if m = 0 and a CCC or the header bit is set"
+            4 => none_moved && (ccc || header),
+            // "6 if m = 0 and not a broadcast CCC"
+            6 => none_moved && !broadcast,
+            // "All else is 14."
+            _ => false,
+        }
+    }
+}
+
+/// 01: "First payload byte is the most significant of its word."
+/// A part-filled word "is padded with 0".
+fn word_of_bytes(bytes: &[u8]) -> u32 {
+    let mut padded = [0; 4];
+    padded[..bytes.len()].copy_from_slice(bytes);
+    u32::from_be_bytes(padded)
+}
+
+/// 01, Commands: "Receipt: 23:20 error, 19:8 length, 7:0 sync".
+fn receipt_word(code: u8, length: u32, sync: u8) -> u32 {
+    u32::from(code) << 20 | length << 8 | u32::from(sync)
+}
+
+/// 01, Commands: "Interrupt entry: 23:17 address, 15:8 data byte, 7:0 its own
+/// sync."
+fn interrupt_entry(address: u8, byte: u8, sync: u8) -> u32 {
+    u32::from(address) << 17 | u32::from(byte) << 8 | u32::from(sync)
+}
+
+/// One controller's state.
+#[derive(Clone, Debug, PartialEq, Eq)]
+pub struct Bank {
+    numbers: SetupNumbers,
+    cmd: Queue,
+    cmdr: Queue,
+    sdo: Queue,
+    sdi: Queue,
+    ibi: Queue,
+    /// ENABLE bit 0: 1 holds the bank in reset.
+    in_reset: bool,
+    transfer: Option<Transfer>,
+    pending: Pending,
+    receipt_sync: u8,
+    interrupt_sync: u8,
+    scratch: u32,
+    irq_mask: u32,
+    /// OPS bits 6:0.
+    ops: u32,
+    listen: bool,
+    acknowledge: bool,
+    selected: usize,
+    devices: [Device; 128],
+    offload_commands: [u32; 16],
+    offload_data: [u32; 16],
+}
+
+/// 01, Numbers: "Set-up gives 0 with a bank held in reset, registers and device
+/// table 0 but for ENABLE and ID, or 23 with a bank whose every number is 0."
+pub fn set_up(numbers: &SetupNumbers) -> (Bank, Answer) {
+    if numbers.in_range() {
+        (Bank::new(*numbers, true), done(0))
+    } else {
+        (Bank::new(ZERO_NUMBERS, false), refuse(SETUP_OUT_OF_RANGE))
+    }
+}
+
+impl Bank {
+    fn new(numbers: SetupNumbers, in_reset: bool) -> Bank {
+        let queue = |n: usize| Queue::new(numbers.capacities[n], numbers.watermarks[n]);
+        Bank {
+            numbers,
+            cmd: queue(0),
+            cmdr: queue(1),
+            sdo: queue(2),
+            sdi: queue(3),
+            ibi: queue(4),
+            in_reset,
+            transfer: None,
+            pending: Pending::default(),
+            receipt_sync: 0,
+            interrupt_sync: 0,
+            scratch: 0,
+            irq_mask: 0,
+            ops: 0,
+            listen: false,
+            acknowledge: false,
+            selected: 0,
+            devices: [Device::default(); 128],
+            offload_commands: [0; 16],
+            offload_data: [0; 16],
+        }
+    }
+
+    pub fn call(&mut self, call: &Call) -> Answer {
+        match *call {
+            Call::Read { offset } => self.read(offset),
+            Call::Write { offset, value } => self.write(offset, value),
+            Call::Start => self.start(),
+            Call::Send => self.send(),
+            Call::Receive { byte } => self.receive(byte),
+            Call::Finish { code } => self.finish(code),
+            Call::InterruptRequest { address, byte } => self.interrupt_request(address, byte),
+            Call::AddressRequest { first, second } => self.address_request(first, second),
+            Call::AddressTake => self.address_take(),
+        }
+    }
+
+    /// 01, Numbers, "Well formed: set-up numbers in range". Of the conditions
+    /// there this is the only one that can fail here.
+    fn is_well_formed(&self) -> bool {
+        self.numbers.in_range()
+    }
+
+    // Accesses. 01, Numbers: "For accesses: 21, 22, 4, 2, 5, 1, 3."
+
+    pub fn read(&mut self, offset: u16) -> Answer {
+        if !self.is_well_formed() {
+            return refuse(NOT_WELL_FORMED);
+        }
+        let Some(register) = register_at(offset) else {
+            return refuse(NOT_IN_MAP);
+        };
+        match register {
+            Register::Cmdr => self.read_cmdr(),
+            Register::Sdi => self.read_sdi(),
+            Register::Ibi => self.read_ibi(),
+            _ => done(self.register_value(register)),
+        }
+    }
+
+    /// The value of a register whose read changes nothing.
+    fn register_value(&self, register: Register) -> u32 {
+        match register {
+            // 01: "0x000 VERSION 0x00000100; 0x004 ID".
+            Register::Version => 0x0000_0100,
+            Register::Id => self.numbers.id,
+            Register::Scratch => self.scratch,
+            Register::Enable => u32::from(self.in_reset),
+            Register::IrqMask => self.irq_mask,
+            // 01: "0x084 IRQ_PENDING reads source AND mask".
+            Register::IrqPending => self.irq_source() & self.irq_mask,
+            Register::IrqSource => self.irq_source(),
+            Register::CmdRoom => self.cmd.room(),
+            Register::CmdrLevel => self.cmdr.level(),
+            Register::SdoRoom => self.sdo.room(),
+            Register::SdiLevel => self.sdi.level(),
+            Register::IbiLevel => self.ibi.level(),
+            Register::FifoStatus => self.fifo_status(),
+            // 01: OPS "bit 7 read-only, 1 when no transfer is open".
+            Register::Ops => u32::from(self.transfer.is_none()) << 7 | self.ops,
+            Register::DevChar => self.device_characteristics(),
+            Register::OffloadCommand(n) => self.offload_commands[n],
+            Register::OffloadData(n) => self.offload_data[n],
+            // 01: "Reads of write-only registers give 0."
+            Register::Cmd | Register::Sdo | Register::IbiConfig => 0,
+            Register::Cmdr | Register::Sdi | Register::Ibi => 0,
+        }
+    }
+
+    /// 01: "Source bits: 0 CMD level below its watermark; 1 CMDR above; 2 SDO
+    /// below; 3 SDI above; 4 IBI above; 5 set by a receipt; 6 set by an accepted
+    /// interrupt; 7 set by an address request".
+    fn irq_source(&self) -> u32 {
+        let bits = [
+            self.cmd.is_below_watermark(),
+            self.cmdr.is_above_watermark(),
+            self.sdo.is_below_watermark(),
+            self.sdi.is_above_watermark(),
+            self.ibi.is_above_watermark(),
+            self.pending.receipt,
+            self.pending.interrupt,
+            self.pending.address,
+        ];
+        (0..8).map(|n| u32::from(bits[n]) << n).sum()
+    }
+
+    /// 01: "bit 2 SDI, bit 1 IBI, bit 0 CMDR empty."
+    fn fifo_status(&self) -> u32 {
+        u32::from(self.sdi.is_empty()) << 2
+            | u32::from(self.ibi.is_empty()) << 1
+            | u32::from(self.cmdr.is_empty())
+    }
+
+    /// 01: "Reads show the selected address and its flags."
+    fn device_characteristics(&self) -> u32 {
+        let device = self.devices[self.selected];
+        (self.selected as u32) << 9
+            | u32::from(device.sends_byte) << 3
+            | u32::from(device.may_interrupt) << 2
+            | u32::from(device.attached) << 1
+    }
+
+    /// 01: "0x0d8 CMDR ... read takes"; "A read that empties CMDR clears bit 5".
+    fn read_cmdr(&mut self) -> Answer {
+        let Some(word) = self.cmdr.take() else {
+            return refuse(EMPTY);
+        };
+        if self.cmdr.is_empty() {
+            self.pending.receipt = false;
+        }
+        done(word)
+    }
+
+    fn read_sdi(&mut self) -> Answer {
+        match self.sdi.take() {
+            Some(word) => done(word),
+            None => refuse(EMPTY),
+        }
+    }
+
+    /// 01: "A read that empties CMDR clears bit 5, IBI bit 6".
+    fn read_ibi(&mut self) -> Answer {
+        let Some(word) = self.ibi.take() else {
+            return refuse(EMPTY);
+        };
+        if self.ibi.is_empty() {
+            self.pending.interrupt = false;
+        }
+        done(word)
+    }
+
+    pub fn write(&mut self, offset: u16, value: u32) -> Answer {
+        if !self.is_well_formed() {
+            return refuse(NOT_WELL_FORMED);
+        }
+        let Some(register) = register_at(offset) else {
+            return refuse(NOT_IN_MAP);
+        };
+        if is_read_only(register) {
+            return refuse(READ_ONLY);
+        }
+        match register {
+            Register::Cmd => return self.write_cmd(value),
+            Register::Sdo => return self.write_sdo(value),
+            Register::Scratch => self.scratch = value,
+            Register::Enable => self.write_enable(value),
+            // 01: "0x080 IRQ_MASK, bits 7:0."
+            Register::IrqMask => self.irq_mask = value & 0xff,
+            Register::IrqPending => self.write_irq_pending(value),
+            // 01: OPS "6:5 speed, 4:1 offload length, bit 0 mode"; bit 7 is
+            // read-only.
+            Register::Ops => self.ops = value & 0x7f,
+            Register::IbiConfig => self.write_ibi_config(value),
+            Register::DevChar => self.write_dev_char(value),
+            // 01: "all read and write, against 001."
+            Register::OffloadCommand(n) => self.offload_commands[n] = value,
+            Register::OffloadData(n) => self.offload_data[n] = value,
+            _ => return refuse(READ_ONLY),
+        }
+        done(0)
+    }
+
+    /// 01: "a word written to CMD or SDO is queued whole"; numbers 5, then 1.
+    fn write_cmd(&mut self, word: u32) -> Answer {
+        if self.in_reset {
+            return refuse(HELD_IN_RESET);
+        }
+        if self.cmd.is_full() {
+            return refuse(FULL);
+        }
+        self.cmd.push(word);
+        done(0)
+    }
+
+    /// 01: "an accepted SDO write clears bit 7."
+    fn write_sdo(&mut self, word: u32) -> Answer {
+        if self.in_reset {
+            return refuse(HELD_IN_RESET);
+        }
+        if self.sdo.is_full() {
+            return refuse(FULL);
+        }
+        self.sdo.push(word);
+        self.pending.address = false;
+        done(0)
+    }
+
+    /// 01: ENABLE "bit 0 ... Writing 1 resets queues, transfer, pending bits and
+    /// syncs and holds them; other registers and the device table stay. Writing
+    /// 0 then releases; once released it changes nothing."
+    fn write_enable(&mut self, value: u32) {
+        self.in_reset = value & 1 == 1;
+        if self.in_reset {
+            self.reset();
+        }
+    }
+
+    fn reset(&mut self) {
+        self.cmd.reset();
+        self.cmdr.reset();
+        self.sdo.reset();
+        self.sdi.reset();
+        self.ibi.reset();
+        self.transfer = None;
+        self.pending = Pending::default();
+        self.receipt_sync = 0;
+        self.interrupt_sync = 0;
+    }
+
+    /// 01: "a 1 written to bits 5 to 7 clears that pending bit."
+    fn write_irq_pending(&mut self, value: u32) {
+        if value >> 5 & 1 == 1 {
+            self.pending.receipt = false;
+        }
+        if value >> 6 & 1 == 1 {
+            self.pending.interrupt = false;
+        }
+        if value >> 7 & 1 == 1 {
+            self.pending.address = false;
+        }
+    }
+
+    /// 01: "0x140 IBI_CONFIG, write-only: bit 1 listen, bit 0 enable."
+    fn write_ibi_config(&mut self, value: u32) {
+        self.listen = value >> 1 & 1 == 1;
+        self.acknowledge = value & 1 == 1;
+    }
+
+    /// 01: "15:9 address, bit 8 write enable, bit 3 sends a data byte, bit 2 may
+    /// interrupt, bit 1 attached. Every write selects the address; with bit 8
+    /// set it also stores the three flags."
+    fn write_dev_char(&mut self, value: u32) {
+        self.selected = (value >> 9 & 0x7f) as usize;
+        if value >> 8 & 1 == 1 {
+            self.devices[self.selected] = Device {
+                sends_byte: value >> 3 & 1 == 1,
+                may_interrupt: value >> 2 & 1 == 1,
+                attached: value >> 1 & 1 == 1,
+            };
+        }
+    }
+
+    // Bus events. 01, Numbers: "21 goes first, then 22, then 18, then the order
+    // given at each event."
+
+    /// 01, Start: "5, 6, 8, 9, 15. Takes the whole command; value is its first
+    /// word."
+    pub fn start(&mut self) -> Answer {
+        if !self.is_well_formed() {
+            return refuse(NOT_WELL_FORMED);
+        }
+        if self.in_reset {
+            return refuse(HELD_IN_RESET);
+        }
+        if self.transfer.is_some() {
+            return refuse(TRANSFER_OPEN);
+        }
+        // OPS bit 0, mode.
+        if self.ops & 1 == 1 {
+            return refuse(OFFLOAD_MODE);
+        }
+        let Some((first, second)) = self.waiting_command() else {
+            return refuse(NO_WHOLE_COMMAND);
+        };
+        let command = parse_command(first, second);
+        if matches!(command.kind, Kind::Entdaa { .. }) && !self.sdo.is_empty() {
+            return refuse(SDO_NOT_EMPTY);
+        }
+        self.cmd.take();
+        if second.is_some() {
+            self.cmd.take();
+        }
+        self.transfer = Some(self.new_transfer(command));
+        done(first)
+    }
+
+    /// The whole command at the head of CMD. 01, What demand 3 counts: "a word
+    /// with bit 22 set and the next are one command, any other word is one."
+    fn waiting_command(&self) -> Option<(u32, Option<u32>)> {
+        let first = *self.cmd.words.front()?;
+        if is_ccc(first) {
+            let second = *self.cmd.words.get(1)?;
+            Some((first, Some(second)))
+        } else {
+            Some((first, None))
+        }
+    }
+
+    /// 01, Start: "For a private transfer or direct CCC it notes whether the
+    /// device is attached now."
+    fn new_transfer(&self, command: Command) -> Transfer {
+        let attached = match command.kind {
+            Kind::Private { .. } | Kind::DirectCcc => {
+                self.devices[usize::from(command.address)].attached
+            }
+            Kind::BroadcastCcc | Kind::Entdaa { .. } => true,
+        };
+        Transfer {
+            command,
+            attached,
+            moved: 0,
+            left: VecDeque::new(),
+            gathered: Vec::new(),
+        }
+    }
+
+    /// 01, Send a byte: "5, 7, 20, 10 (a read or ENTDAA), 11, 12. A word leaves
+    /// SDO with its first byte, and only there can 12 arise; bytes past the
+    /// length are dropped. Value: the byte."
+    pub fn send(&mut self) -> Answer {
+        if !self.is_well_formed() {
+            return refuse(NOT_WELL_FORMED);
+        }
+        if self.in_reset {
+            return refuse(HELD_IN_RESET);
+        }
+        let Some(transfer) = self.transfer.as_mut() else {
+            return refuse(NO_TRANSFER);
+        };
+        if !transfer.attached {
+            return refuse(NOT_ATTACHED);
+        }
+        if !transfer.is_write() {
+            return refuse(NOT_FOR_THIS_KIND);
+        }
+        if transfer.moved == transfer.command.length {
+            return refuse(LENGTH_REACHED);
+        }
+        if transfer.left.is_empty() {
+            let Some(word) = self.sdo.take() else {
+                return refuse(SDO_EMPTY);
+            };
+            transfer.left.extend(word.to_be_bytes());
+        }
+        let byte = transfer.left.pop_front().unwrap_or(0);
+        transfer.moved += 1;
+        done(u32::from(byte))
+    }
+
+    /// 01, Receive a byte: "5, 7, 20, 10 (a write or ENTDAA), 11, 13. A word goes
+    /// to SDI with its fourth byte; 13 only when that push has no room."
+    pub fn receive(&mut self, byte: u8) -> Answer {
+        if !self.is_well_formed() {
+            return refuse(NOT_WELL_FORMED);
+        }
+        if self.in_reset {
+            return refuse(HELD_IN_RESET);
+        }
+        let Some(transfer) = self.transfer.as_mut() else {
+            return refuse(NO_TRANSFER);
+        };
+        if !transfer.attached {
+            return refuse(NOT_ATTACHED);
+        }
+        if !transfer.is_read() {
+            return refuse(NOT_FOR_THIS_KIND);
+        }
+        if transfer.moved == transfer.command.length {
+            return refuse(LENGTH_REACHED);
+        }
+        let fills_word = transfer.gathered.len() == 3;
+        if fills_word && self.sdi.is_full() {
+            return refuse(NO_ROOM);
+        }
+        transfer.gathered.push(byte);
+        transfer.moved += 1;
+        if fills_word {
+            self.sdi.push(word_of_bytes(&transfer.gathered));
+            transfer.gathered.clear();
+        }
+        done(0)
+    }
+
+    /// 01, Finish with a code: "5, 7, 14, 13. A part-filled word is padded with 0
+    /// and pushed, then the receipt (the value). 13 if a word to be pushed has no
+    /// room; then nothing is pushed."
+    pub fn finish(&mut self, code: u8) -> Answer {
+        if !self.is_well_formed() {
+            return refuse(NOT_WELL_FORMED);
+        }
+        // 01, number 18: "code above 15".
+        if code > 15 {
+            return refuse(OUT_OF_RANGE);
+        }
+        if self.in_reset {
+            return refuse(HELD_IN_RESET);
+        }
+        let Some(transfer) = self.transfer.as_ref() else {
+            return refuse(NO_TRANSFER);
+        };
+        if !transfer.may_end_with(code) {
+            return refuse(ENDING_NOT_ALLOWED);
+        }
+        let has_part = !transfer.gathered.is_empty();
+        if self.cmdr.is_full() || (has_part && self.sdi.is_full()) {
+            return refuse(NO_ROOM);
+        }
+        if has_part {
+            self.sdi.push(word_of_bytes(&transfer.gathered));
+        }
+        let receipt = receipt_word(code, transfer.moved, self.receipt_sync);
+        self.queue_receipt(receipt);
+        self.transfer = None;
+        done(receipt)
+    }
+
+    /// 01: source bit 5 is "set by a receipt"; "The sync starts at 0 and returns
+    /// to 0 after 255."
+    fn queue_receipt(&mut self, receipt: u32) {
+        self.cmdr.push(receipt);
+        self.pending.receipt = true;
+        self.receipt_sync = self.receipt_sync.wrapping_add(1);
+    }
+
+    /// 01, Interrupt request: "5, 6, 16 (listen 0), 17 (enable 0, or not
+    /// attached, or may not interrupt), 13. A device that sends no byte is stored
+    /// with 0. Value: the entry."
+    pub fn interrupt_request(&mut self, address: u8, byte: u8) -> Answer {
+        if !self.is_well_formed() {
+            return refuse(NOT_WELL_FORMED);
+        }
+        // 01, number 18: "address above 127".
+        if address > 127 {
+            return refuse(OUT_OF_RANGE);
+        }
+        if self.in_reset {
+            return refuse(HELD_IN_RESET);
+        }
+        if self.transfer.is_some() {
+            return refuse(TRANSFER_OPEN);
+        }
+        if !self.listen {
+            return refuse(NOT_HEARD);
+        }
+        let device = self.devices[usize::from(address)];
+        if !self.acknowledge || !device.attached || !device.may_interrupt {
+            return refuse(NOT_ACKNOWLEDGED);
+        }
+        if self.ibi.is_full() {
+            return refuse(NO_ROOM);
+        }
+        let stored = if device.sends_byte { byte } else { 0 };
+        let entry = interrupt_entry(address, stored, self.interrupt_sync);
+        self.queue_interrupt(entry);
+        done(entry)
+    }
+
+    /// 01: source bit 6 is "set by an accepted interrupt"; the entry has "its own
+    /// sync".
+    fn queue_interrupt(&mut self, entry: u32) {
+        self.ibi.push(entry);
+        self.pending.interrupt = true;
+        self.interrupt_sync = self.interrupt_sync.wrapping_add(1);
+    }
+
+    /// 01, Address request: "5, 7, 10 (not ENTDAA, or one is open), 13 (SDI room
+    /// below 2). Pushes both."
+    pub fn address_request(&mut self, first: u32, second: u32) -> Answer {
+        if !self.is_well_formed() {
+            return refuse(NOT_WELL_FORMED);
+        }
+        if self.in_reset {
+            return refuse(HELD_IN_RESET);
+        }
+        let Some(transfer) = self.transfer.as_mut() else {
+            return refuse(NO_TRANSFER);
+        };
+        let Kind::Entdaa { open, made } = &mut transfer.command.kind else {
+            return refuse(NOT_FOR_THIS_KIND);
+        };
+        if *open {
+            return refuse(NOT_FOR_THIS_KIND);
+        }
+        if self.sdi.room() < 2 {
+            return refuse(NO_ROOM);
+        }
+        *open = true;
+        *made = true;
+        self.sdi.push(first);
+        self.sdi.push(second);
+        self.ask_for_address();
+        done(0)
+    }
+
+    /// 01: source bit 7 is "set by an address request (and by answer 19) when SDO
+    /// is then empty."
+    fn ask_for_address(&mut self) {
+        if self.sdo.is_empty() {
+            self.pending.address = true;
+        }
+    }
+
+    /// 01, Address take: "5, 7, 10 (not ENTDAA, or none open), 12. Bits 31:25 are
+    /// the address, the value; bits 31:24 together hold an odd number of ones,
+    /// else 19."
+    pub fn address_take(&mut self) -> Answer {
+        if !self.is_well_formed() {
+            return refuse(NOT_WELL_FORMED);
+        }
+        if self.in_reset {
+            return refuse(HELD_IN_RESET);
+        }
+        let Some(transfer) = self.transfer.as_mut() else {
+            return refuse(NO_TRANSFER);
+        };
+        let Kind::Entdaa { open, .. } = &mut transfer.command.kind else {
+            return refuse(NOT_FOR_THIS_KIND);
+        };
+        if !*open {
+            return refuse(NOT_FOR_THIS_KIND);
+        }
+        let Some(word) = self.sdo.take() else {
+            return refuse(SDO_EMPTY);
+        };
+        let address = word >> 25;
+        if (word >> 24).count_ones() % 2 == 1 {
+            *open = false;
+            done(address)
+        } else {
+            // 01, number 19: "taken, request stays open; value is the address".
+            self.ask_for_address();
+            Answer {
+                value: address,
+                number: WRONG_PARITY,
+            }
+        }
+    }
+}
+
+#[cfg(test)]
+mod tests;

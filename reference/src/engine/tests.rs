@@ -1,0 +1,986 @@
+//! Tests of the engine, rule by rule, and a walk of random calls against the
+//! count of demand 3.
+
+use super::*;
+
+fn fresh() -> Bank {
+    set_up(&SESSION_NUMBERS).0
+}
+
+fn released() -> Bank {
+    let mut bank = fresh();
+    assert_eq!(bank.write(0x40, 0), done(0));
+    bank
+}
+
+/// Released, with device 8 attached.
+fn with_device() -> Bank {
+    let mut bank = released();
+    assert_eq!(bank.write(0x180, 0x1102), done(0));
+    bank
+}
+
+fn value_at(bank: &mut Bank, offset: u16) -> u32 {
+    let answer = bank.read(offset);
+    assert_eq!(answer.number, 0);
+    answer.value
+}
+
+fn started(bank: &mut Bank, words: &[u32]) {
+    for word in words {
+        assert_eq!(bank.write(0xd4, *word), done(0));
+    }
+    assert_eq!(bank.start(), done(words[0]));
+}
+
+const PRIVATE_WRITE_2: u32 = 0x0000_0210;
+const PRIVATE_READ_5: u32 = 0x0000_0511;
+const CCC: u32 = 0x0040_0000;
+const HEADER: u32 = 0x0020_0000;
+
+// Set-up.
+
+/// 01: "Capacities: CMD and SDI 2 to 1,024, the others 1 to 1,024. A watermark is
+/// 0 to its queue's capacity; ID is 0 to 255."
+#[test]
+fn set_up_ranges() {
+    let least = SetupNumbers {
+        capacities: [2, 1, 1, 2, 1],
+        watermarks: [0; 5],
+        id: 255,
+    };
+    assert_eq!(set_up(&least).1, done(0));
+    let greatest = SetupNumbers {
+        capacities: [1024; 5],
+        watermarks: [1024; 5],
+        id: 0,
+    };
+    assert_eq!(set_up(&greatest).1, done(0));
+    for queue in 0..5 {
+        let mut numbers = least;
+        numbers.capacities[queue] -= 1;
+        assert_eq!(set_up(&numbers).1, refuse(23));
+        let mut numbers = greatest;
+        numbers.capacities[queue] = 1025;
+        assert_eq!(set_up(&numbers).1, refuse(23));
+        let mut numbers = least;
+        numbers.watermarks[queue] = least.capacities[queue] + 1;
+        assert_eq!(set_up(&numbers).1, refuse(23));
+        let mut numbers = least;
+        numbers.watermarks[queue] = u32::MAX;
+        assert_eq!(set_up(&numbers).1, refuse(23));
+    }
+    let mut numbers = least;
+    numbers.id = 256;
+    assert_eq!(set_up(&numbers).1, refuse(23));
+}
+
+/// 01: "a bank held in reset, registers and device table 0 but for ENABLE and ID".
+#[test]
+fn registers_after_set_up() {
+    let mut numbers = SESSION_NUMBERS;
+    numbers.id = 0xa5;
+    let (mut bank, _) = set_up(&numbers);
+    let expected = [
+        (0x000, 0x100),
+        (0x004, 0xa5),
+        (0x008, 0),
+        (0x040, 1),
+        (0x080, 0),
+        (0x084, 0),
+        (0x088, 5),
+        (0x0c0, 4),
+        (0x0c4, 0),
+        (0x0c8, 4),
+        (0x0cc, 0),
+        (0x0d0, 0),
+        (0x0d4, 0),
+        (0x0dc, 0),
+        (0x0e8, 7),
+        (0x100, 0x80),
+        (0x140, 0),
+        (0x180, 0),
+        (0x2c0, 0),
+        (0x2fc, 0),
+        (0x300, 0),
+        (0x33c, 0),
+    ];
+    for (offset, value) in expected {
+        assert_eq!(bank.read(offset), done(value), "{offset:#x}");
+    }
+    for offset in [0x0d8, 0x0e0, 0x0e4] {
+        assert_eq!(bank.read(offset), refuse(3));
+    }
+}
+
+// Accesses.
+
+/// 01, number 4: "offset not in the map, or not a multiple of 4".
+#[test]
+fn offsets_of_the_map() {
+    let mut in_map = 0;
+    for offset in 0..=u16::MAX {
+        let mut bank = released();
+        let read = bank.read(offset);
+        let written = bank.write(offset, 0);
+        assert_eq!(read.number == 4, written.number == 4);
+        if read.number != 4 {
+            in_map += 1;
+            assert_eq!(offset % 4, 0);
+        }
+    }
+    assert_eq!(in_map, 3 + 1 + 3 + 11 + 3 + 32);
+    for offset in [1, 0x0d5, 0x00c, 0x044, 0x08c, 0x0ec, 0x2bc, 0x2c2, 0x340] {
+        assert_eq!(released().read(offset), refuse(4));
+    }
+}
+
+/// 01, number 2: "write to a read-only register, dropped".
+#[test]
+fn read_only_registers() {
+    let offsets = [
+        0x000, 0x004, 0x088, 0x0c0, 0x0c4, 0x0c8, 0x0cc, 0x0d0, 0x0d8, 0x0e0, 0x0e4, 0x0e8,
+    ];
+    for offset in offsets {
+        for mut bank in [fresh(), released()] {
+            let before = bank.clone();
+            assert_eq!(bank.write(offset, u32::MAX), refuse(2));
+            assert_eq!(bank, before);
+        }
+    }
+}
+
+/// 01: "Unnamed bits are ignored on write and read 0".
+#[test]
+fn kept_bits() {
+    for mut bank in [fresh(), released()] {
+        let kept = [
+            (0x008, u32::MAX),
+            (0x080, 0xff),
+            (0x100, 0xff),
+            (0x140, 0),
+            (0x180, 0xfe0e),
+            (0x2c4, u32::MAX),
+            (0x338, u32::MAX),
+        ];
+        for (offset, value) in kept {
+            assert_eq!(bank.write(offset, u32::MAX), done(0));
+            assert_eq!(bank.read(offset), done(value), "{offset:#x}");
+        }
+    }
+    let mut bank = fresh();
+    assert_eq!(bank.write(0x40, u32::MAX), done(0));
+    assert_eq!(bank.read(0x40), done(1));
+    assert_eq!(bank.write(0x40, 0xffff_fffe), done(0));
+    assert_eq!(bank.read(0x40), done(0));
+}
+
+/// 01: "0x2c0 to 0x2fc, 0x300 to 0x33c: sixteen offload commands, sixteen offload
+/// data words; all read and write".
+#[test]
+fn offload_memories() {
+    let mut bank = fresh();
+    for offset in (0x2c0..=0x33c).step_by(4) {
+        assert_eq!(bank.write(offset, 0x8000_0000 | u32::from(offset)), done(0));
+    }
+    for offset in (0x2c0..=0x33c).step_by(4) {
+        assert_eq!(bank.read(offset), done(0x8000_0000 | u32::from(offset)));
+    }
+}
+
+/// 01, DEV_CHAR: "Every write selects the address; with bit 8 set it also stores
+/// the three flags."
+#[test]
+fn device_table() {
+    let mut bank = fresh();
+    bank.write(0x180, 0x110e);
+    assert_eq!(bank.read(0x180), done(0x100e));
+    bank.write(0x180, 0xfe0e);
+    assert_eq!(bank.read(0x180), done(0xfe00));
+    bank.write(0x180, 0x1000);
+    assert_eq!(bank.read(0x180), done(0x100e));
+    bank.write(0x180, 0x1104);
+    assert_eq!(bank.read(0x180), done(0x1004));
+}
+
+/// 01, number 5: "held in reset: CMD or SDO write, or any bus event".
+#[test]
+fn held_in_reset() {
+    let mut bank = fresh();
+    assert_eq!(bank.write(0xd4, 0), refuse(5));
+    assert_eq!(bank.write(0xdc, 0), refuse(5));
+    assert_eq!(bank.start(), refuse(5));
+    assert_eq!(bank.send(), refuse(5));
+    assert_eq!(bank.receive(0), refuse(5));
+    assert_eq!(bank.finish(15), refuse(5));
+    assert_eq!(bank.finish(16), refuse(18));
+    assert_eq!(bank.interrupt_request(127, 0), refuse(5));
+    assert_eq!(bank.interrupt_request(128, 0), refuse(18));
+    assert_eq!(bank.address_request(0, 0), refuse(5));
+    assert_eq!(bank.address_take(), refuse(5));
+    assert_eq!(bank, fresh());
+}
+
+/// 01, ENABLE: "Writing 1 resets queues, transfer, pending bits and syncs and holds
+/// them; other registers and the device table stay."
+#[test]
+fn reset_keeps_the_other_registers() {
+    let mut bank = with_device();
+    bank.write(0x008, 0x1234_5678);
+    bank.write(0x080, 0xa5);
+    bank.write(0x100, 0x7e);
+    bank.write(0x140, 3);
+    bank.write(0x180, 0x130e);
+    bank.write(0x2c0, 1);
+    bank.write(0x300, 2);
+    bank.write(0xdc, 3);
+    started(&mut bank, &[0x10]);
+    assert_eq!(bank.finish(0), done(0));
+    bank.interrupt_request(9, 9);
+    started(&mut bank, &[PRIVATE_READ_5]);
+    bank.write(0xd4, 0x10);
+    bank.receive(1);
+    assert_eq!(value_at(&mut bank, 0x88), 0x60);
+    assert_eq!(bank.write(0x40, 1), done(0));
+
+    let mut expected = fresh();
+    for (offset, value) in [
+        (0x008, 0x1234_5678),
+        (0x080, 0xa5),
+        (0x100, 0x7e),
+        (0x140, 3),
+        (0x180, 0x1102),
+        (0x180, 0x130e),
+        (0x2c0, 1),
+        (0x300, 2),
+    ] {
+        expected.write(offset, value);
+    }
+    assert_eq!(bank, expected);
+
+    assert_eq!(bank.write(0x40, 0), done(0));
+    started(&mut bank, &[0x10]);
+    assert_eq!(bank.finish(6), done(0x0060_0000));
+    assert_eq!(bank.interrupt_request(9, 9), done(0x0012_0900));
+}
+
+/// 01, ENABLE: "once released it changes nothing."
+#[test]
+fn release_twice() {
+    let mut bank = with_device();
+    started(&mut bank, &[PRIVATE_READ_5]);
+    bank.receive(1);
+    let before = bank.clone();
+    assert_eq!(bank.write(0x40, 0), done(0));
+    assert_eq!(bank, before);
+}
+
+// Interrupt sources.
+
+/// 01: "Source bits: 0 CMD level below its watermark; ... 2 SDO below". At the
+/// watermark the bit is 0.
+#[test]
+fn almost_empty() {
+    let mut bank = released();
+    assert_eq!(value_at(&mut bank, 0x88), 0x05);
+    bank.write(0xd4, 0);
+    assert_eq!(value_at(&mut bank, 0x88), 0x04);
+    bank.write(0xdc, 0);
+    assert_eq!(value_at(&mut bank, 0x88), 0x00);
+}
+
+/// 01: "1 CMDR above; ... 3 SDI above; 4 IBI above". At the watermark the bit is 0.
+#[test]
+fn almost_full() {
+    let mut bank = with_device();
+    bank.write(0x140, 3);
+    bank.write(0x180, 0x1106);
+    for level in 1..=4 {
+        started(&mut bank, &[0x111]);
+        bank.receive(0);
+        bank.finish(0);
+        bank.interrupt_request(8, 0);
+        let expected = if level > 3 { 0x1a } else { 0 };
+        assert_eq!(value_at(&mut bank, 0x88) & 0x1a, expected);
+    }
+    started(&mut bank, &[0x111]);
+    bank.receive(0);
+    assert_eq!(bank.finish(0), refuse(13));
+    assert_eq!(value_at(&mut bank, 0x100), 0);
+}
+
+/// 01: "IRQ_PENDING reads source AND mask; a 1 written to bits 5 to 7 clears that
+/// pending bit"; a masked bit too.
+#[test]
+fn pending_and_mask() {
+    let mut bank = with_device();
+    started(&mut bank, &[0x10]);
+    bank.finish(0);
+    assert_eq!(value_at(&mut bank, 0x88), 0x25);
+    assert_eq!(value_at(&mut bank, 0x84), 0);
+    bank.write(0x80, 0x24);
+    assert_eq!(value_at(&mut bank, 0x84), 0x24);
+    assert_eq!(bank.write(0x84, 0xffff_ffdf), done(0));
+    assert_eq!(value_at(&mut bank, 0x84), 0x24);
+    bank.write(0x80, 0);
+    assert_eq!(bank.write(0x84, 0x20), done(0));
+    assert_eq!(value_at(&mut bank, 0x88), 0x05);
+    assert_eq!(value_at(&mut bank, 0xc4), 1);
+}
+
+/// 01: "A read that empties CMDR clears bit 5, IBI bit 6".
+#[test]
+fn emptying_reads_clear_pending() {
+    let mut bank = with_device();
+    bank.write(0x140, 3);
+    bank.write(0x180, 0x1106);
+    for _ in 0..2 {
+        started(&mut bank, &[0x10]);
+        bank.finish(0);
+        bank.interrupt_request(8, 0xff);
+    }
+    assert_eq!(value_at(&mut bank, 0x88), 0x65);
+    assert_eq!(bank.read(0xd8), done(0));
+    assert_eq!(value_at(&mut bank, 0x88), 0x65);
+    assert_eq!(bank.read(0xd8), done(1));
+    assert_eq!(value_at(&mut bank, 0x88), 0x45);
+    assert_eq!(bank.read(0xe4), done(0x0010_0000));
+    assert_eq!(value_at(&mut bank, 0x88), 0x45);
+    assert_eq!(bank.read(0xe4), done(0x0010_0001));
+    assert_eq!(value_at(&mut bank, 0x88), 0x05);
+}
+
+// Start.
+
+/// 01, Start: "5, 6, 8, 9, 15."
+#[test]
+fn start_order() {
+    let mut bank = with_device();
+    assert_eq!(bank.start(), refuse(9));
+    bank.write(0x100, 1);
+    assert_eq!(bank.start(), refuse(8));
+    bank.write(0x100, 0);
+    started(&mut bank, &[0x10]);
+    bank.write(0x100, 1);
+    assert_eq!(bank.start(), refuse(6));
+    assert_eq!(bank.finish(0), done(0));
+    bank.write(0x100, 0x7e);
+    bank.write(0xdc, 0);
+    bank.write(0xd4, CCC);
+    assert_eq!(bank.start(), refuse(9));
+    bank.write(0xd4, 7);
+    assert_eq!(bank.start(), refuse(15));
+    assert_eq!(value_at(&mut bank, 0xc0), 2);
+}
+
+/// 01: "a word written to CMD or SDO is queued whole"; Start: "value is its first
+/// word."
+#[test]
+fn start_gives_the_whole_first_word() {
+    let mut bank = released();
+    started(&mut bank, &[0xffff_ffff, 0xffff_ff06]);
+    assert_eq!(value_at(&mut bank, 0xc0), 4);
+    assert_eq!(value_at(&mut bank, 0x100), 0);
+}
+
+/// 01: "For a private transfer or direct CCC it notes whether the device is
+/// attached now."
+#[test]
+fn attached_is_noted_at_start() {
+    let mut bank = with_device();
+    started(&mut bank, &[PRIVATE_READ_5]);
+    bank.write(0x180, 0x1100);
+    assert_eq!(bank.receive(1), done(0));
+    assert_eq!(bank.finish(8), refuse(14));
+    assert_eq!(bank.finish(0), done(0x100));
+
+    started(&mut bank, &[PRIVATE_READ_5]);
+    bank.write(0x180, 0x1102);
+    assert_eq!(bank.receive(1), refuse(20));
+    assert_eq!(bank.send(), refuse(20));
+    assert_eq!(bank.finish(0), refuse(14));
+    assert_eq!(bank.finish(8), done(0x0080_0001));
+
+    for (second, number) in [(0x80, 20), (0x87, 20), (0x00, 0), (0x06, 0), (0x107, 10)] {
+        let mut bank = released();
+        started(&mut bank, &[CCC | 0x111, second]);
+        assert_eq!(bank.receive(1).number, number, "{second:#x}");
+    }
+}
+
+// Payload.
+
+/// 01, Send: "A word leaves SDO with its first byte, and only there can 12 arise;
+/// bytes past the length are dropped."
+#[test]
+fn send_takes_words() {
+    let mut bank = with_device();
+    started(&mut bank, &[0x510]);
+    assert_eq!(bank.send(), refuse(12));
+    bank.write(0xdc, 0x0102_0304);
+    assert_eq!(value_at(&mut bank, 0xc8), 3);
+    for byte in 1..=4 {
+        assert_eq!(bank.send(), done(byte));
+        assert_eq!(value_at(&mut bank, 0xc8), 4);
+    }
+    assert_eq!(bank.send(), refuse(12));
+    for code in 0..=15 {
+        assert_eq!(bank.finish(code), refuse(14));
+    }
+    bank.write(0xdc, 0x0506_0708);
+    bank.write(0xdc, 0x090a_0b0c);
+    assert_eq!(bank.send(), done(5));
+    assert_eq!(bank.send(), refuse(11));
+    assert_eq!(bank.finish(0), done(0x500));
+    started(&mut bank, &[0x110]);
+    assert_eq!(bank.send(), done(9));
+}
+
+/// 01: "After a write that was not acknowledged its data words stay in SDO."
+#[test]
+fn not_acknowledged_write_keeps_sdo() {
+    let mut bank = with_device();
+    bank.write(0xdc, 0x0102_0304);
+    started(&mut bank, &[PRIVATE_WRITE_2]);
+    assert_eq!(bank.finish(6), done(0x0060_0000));
+    assert_eq!(value_at(&mut bank, 0xc8), 3);
+}
+
+/// 01, Receive: "13 only when that push has no room."
+#[test]
+fn receive_without_room() {
+    let mut bank = with_device();
+    started(&mut bank, &[0xf_ff11]);
+    for byte in 0..16 {
+        assert_eq!(bank.receive(byte), done(0));
+    }
+    for byte in 16..19 {
+        assert_eq!(bank.receive(byte), done(0));
+    }
+    let before = bank.clone();
+    assert_eq!(bank.receive(19), refuse(13));
+    assert_eq!(bank.finish(0), refuse(13));
+    assert_eq!(bank, before);
+    assert_eq!(bank.read(0xe0), done(0x0001_0203));
+    assert_eq!(bank.receive(19), done(0));
+    assert_eq!(value_at(&mut bank, 0xcc), 4);
+    assert_eq!(bank.finish(0), done(0x1400));
+}
+
+/// 01, number 10: "a read or ENTDAA", "a write or ENTDAA"; tested before 11.
+#[test]
+fn wrong_direction() {
+    let mut bank = with_device();
+    started(&mut bank, &[0x11]);
+    assert_eq!(bank.send(), refuse(10));
+    assert_eq!(bank.receive(0), refuse(11));
+    assert_eq!(bank.finish(0), done(0));
+    started(&mut bank, &[0x10]);
+    assert_eq!(bank.receive(0), refuse(10));
+    assert_eq!(bank.send(), refuse(11));
+    assert_eq!(bank.finish(0), done(1));
+    for first in [CCC | 0x500, CCC | 0x501] {
+        let mut bank = released();
+        started(&mut bank, &[first, 7]);
+        assert_eq!(bank.send(), refuse(10));
+        assert_eq!(bank.receive(0), refuse(10));
+    }
+    let mut bank = released();
+    for answer in [bank.send(), bank.receive(0), bank.finish(0)] {
+        assert_eq!(answer, refuse(7));
+    }
+    assert_eq!(bank.address_request(0, 0), refuse(7));
+    assert_eq!(bank.address_take(), refuse(7));
+}
+
+// Endings.
+
+/// The codes allowed after `moved` bytes of a transfer.
+fn endings(words: &[u32], attached: bool, moved: usize) -> Vec<u8> {
+    let mut bank = released();
+    if attached {
+        bank.write(0x180, 0x1102);
+    }
+    bank.write(0xdc, 0x0102_0304);
+    started(&mut bank, words);
+    for _ in 0..moved {
+        let answer = if words[0] & 1 == 1 {
+            bank.receive(1)
+        } else {
+            bank.send()
+        };
+        assert_eq!(answer.number, 0);
+    }
+    (0..=15)
+        .filter(|code| bank.clone().finish(*code).number == 0)
+        .collect()
+}
+
+/// 01, Finish: the whole list of endings but ENTDAA's.
+#[test]
+fn endings_allowed() {
+    // "device unattached, code 8 only."
+    for words in [
+        &[0x210][..],
+        &[0x211],
+        &[HEADER | 0x210],
+        &[CCC | 0x211, 0x80],
+    ] {
+        assert_eq!(endings(words, false, 0), [8]);
+    }
+    // Private write.
+    assert_eq!(endings(&[0x010], true, 0), [0, 6]);
+    assert_eq!(endings(&[0x210], true, 0), [6]);
+    assert_eq!(endings(&[0x210], true, 1), []);
+    assert_eq!(endings(&[0x210], true, 2), [0]);
+    // Private write with the header.
+    assert_eq!(endings(&[HEADER | 0x010], true, 0), [0, 4, 6]);
+    assert_eq!(endings(&[HEADER | 0x210], true, 0), [4, 6]);
+    assert_eq!(endings(&[HEADER | 0x210], true, 1), []);
+    assert_eq!(endings(&[HEADER | 0x210], true, 2), [0]);
+    // Private read.
+    assert_eq!(endings(&[0x011], true, 0), [0, 6]);
+    assert_eq!(endings(&[0x211], true, 0), [0, 6]);
+    assert_eq!(endings(&[0x211], true, 1), [0]);
+    assert_eq!(endings(&[0x211], true, 2), [0]);
+    assert_eq!(endings(&[HEADER | 0x211], true, 0), [0, 4, 6]);
+    // Direct CCC.
+    assert_eq!(endings(&[CCC | 0x010, 0x80], true, 0), [0, 4, 6]);
+    assert_eq!(endings(&[CCC | 0x210, 0x80], true, 0), [4, 6]);
+    assert_eq!(endings(&[CCC | 0x210, 0x80], true, 1), []);
+    assert_eq!(endings(&[CCC | 0x210, 0x80], true, 2), [0]);
+    assert_eq!(endings(&[CCC | 0x011, 0x80], true, 0), [0, 4, 6]);
+    assert_eq!(endings(&[CCC | 0x211, 0x80], true, 0), [1, 4, 6]);
+    assert_eq!(endings(&[CCC | 0x211, 0x80], true, 1), [1]);
+    assert_eq!(endings(&[CCC | 0x211, 0x80], true, 2), [0]);
+    // Broadcast CCC, with and without an attached device.
+    for attached in [false, true] {
+        assert_eq!(endings(&[CCC | 0x010, 6], attached, 0), [0, 4]);
+        assert_eq!(endings(&[CCC | 0x210, 6], attached, 0), [4]);
+        assert_eq!(endings(&[CCC | 0x210, 6], attached, 1), []);
+        assert_eq!(endings(&[CCC | 0x210, 6], attached, 2), [0]);
+        assert_eq!(endings(&[CCC | 0x011, 6], attached, 0), [0, 4]);
+        assert_eq!(endings(&[CCC | 0x211, 6], attached, 0), [1, 4]);
+        assert_eq!(endings(&[CCC | 0x211, 6], attached, 1), [1]);
+        assert_eq!(endings(&[CCC | 0x211, 6], attached, 2), [0]);
+    }
+}
+
+/// 01, Finish: "13 if a word to be pushed has no room; then nothing is pushed";
+/// Readings that look right: the sync is not raised by a refused finish.
+#[test]
+fn finish_without_room() {
+    let mut bank = with_device();
+    for sync in 0..4 {
+        started(&mut bank, &[0x10]);
+        assert_eq!(bank.finish(0), done(sync));
+    }
+    started(&mut bank, &[PRIVATE_READ_5]);
+    bank.receive(7);
+    let before = bank.clone();
+    assert_eq!(bank.finish(0), refuse(13));
+    assert_eq!(bank.finish(1), refuse(14));
+    assert_eq!(bank.finish(16), refuse(18));
+    assert_eq!(bank, before);
+    assert_eq!(bank.read(0xd8), done(0));
+    assert_eq!(bank.finish(0), done(0x104));
+    assert_eq!(bank.read(0xe0), done(0x0700_0000));
+}
+
+// Interrupt requests.
+
+/// 01, Interrupt request: "5, 6, 16 (listen 0), 17 (enable 0, or not attached, or
+/// may not interrupt), 13."
+#[test]
+fn interrupt_order() {
+    let mut bank = with_device();
+    started(&mut bank, &[0x10]);
+    assert_eq!(bank.interrupt_request(128, 0), refuse(18));
+    assert_eq!(bank.interrupt_request(8, 0), refuse(6));
+    bank.finish(0);
+    assert_eq!(bank.interrupt_request(8, 0), refuse(16));
+    bank.write(0x140, 1);
+    assert_eq!(bank.interrupt_request(8, 0), refuse(16));
+    bank.write(0x140, 2);
+    bank.write(0x180, 0x1106);
+    assert_eq!(bank.interrupt_request(8, 0), refuse(17));
+    bank.write(0x140, 3);
+    bank.write(0x180, 0x1104);
+    assert_eq!(bank.interrupt_request(8, 0), refuse(17));
+    bank.write(0x180, 0x110a);
+    assert_eq!(bank.interrupt_request(8, 0), refuse(17));
+    bank.write(0x180, 0x1106);
+    for sync in 0..4 {
+        assert_eq!(bank.interrupt_request(8, 0xff), done(0x0010_0000 | sync));
+    }
+    assert_eq!(bank.interrupt_request(8, 0xff), refuse(13));
+    assert_eq!(bank.read(0xe4), done(0x0010_0000));
+    assert_eq!(bank.interrupt_request(8, 0xff), done(0x0010_0004));
+    assert_eq!(bank.interrupt_sync, 5);
+    assert_eq!(bank.receipt_sync, 1);
+}
+
+// Address assignment.
+
+/// 01: "ENTDAA, 0 with no request open, 4 with none made since start."
+#[test]
+fn entdaa() {
+    let codes = |bank: &Bank| -> Vec<u8> {
+        (0..=15)
+            .filter(|code| bank.clone().finish(*code).number == 0)
+            .collect()
+    };
+    let mut bank = released();
+    started(&mut bank, &[CCC | 0x511, 0x107]);
+    assert_eq!(codes(&bank), [0, 4]);
+    assert_eq!(bank.address_take(), refuse(10));
+    assert_eq!(bank.address_request(0xaaaa_aaaa, 0x5555_5555), done(0));
+    assert_eq!(value_at(&mut bank, 0x88), 0x85);
+    assert_eq!(bank.address_request(0, 0), refuse(10));
+    assert_eq!(bank.address_take(), refuse(12));
+    assert_eq!(codes(&bank), []);
+    bank.write(0xdc, 0x10ff_ffff);
+    assert_eq!(value_at(&mut bank, 0x88), 0x01);
+    assert_eq!(bank.address_take(), done(8));
+    assert_eq!(value_at(&mut bank, 0x88), 0x05);
+    assert_eq!(codes(&bank), [0]);
+    assert_eq!(bank.address_take(), refuse(10));
+    assert_eq!(bank.address_request(1, 2), done(0));
+    assert_eq!(bank.write(0xdc, 0x1300_0000), done(0));
+    assert_eq!(bank.address_take(), done(9));
+    assert_eq!(bank.address_request(3, 4), refuse(13));
+    assert_eq!(bank.read(0xe0), done(0xaaaa_aaaa));
+    assert_eq!(bank.address_request(3, 4), refuse(13));
+    assert_eq!(bank.read(0xe0), done(0x5555_5555));
+    assert_eq!(bank.finish(0), done(0));
+    assert_eq!(bank.read(0xe0), done(1));
+    assert_eq!(bank.read(0xe0), done(2));
+}
+
+/// 01: "7 set by an address request (and by answer 19) when SDO is then empty."
+#[test]
+fn pending_address() {
+    let mut bank = released();
+    started(&mut bank, &[CCC, 7]);
+    bank.write(0xdc, 0x1100_0000);
+    bank.write(0xdc, 0x1200_0000);
+    assert_eq!(bank.address_request(1, 2), done(0));
+    assert_eq!(value_at(&mut bank, 0x88) & 0x80, 0);
+    let nineteen = |value| Answer { value, number: 19 };
+    assert_eq!(bank.address_take(), nineteen(8));
+    assert_eq!(value_at(&mut bank, 0x88) & 0x80, 0);
+    assert_eq!(bank.address_take(), nineteen(9));
+    assert_eq!(value_at(&mut bank, 0x88) & 0x80, 0x80);
+    assert_eq!(bank.finish(0), refuse(14));
+    bank.write(0x84, 0x80);
+    assert_eq!(value_at(&mut bank, 0x88) & 0x80, 0);
+    assert_eq!(bank.address_take(), refuse(12));
+    bank.write(0xdc, 0);
+    assert_eq!(bank.address_take(), nineteen(0));
+    bank.write(0xdc, 0xfe00_0000);
+    assert_eq!(bank.address_take(), done(0x7f));
+    assert_eq!(bank.finish(4), refuse(14));
+    assert_eq!(bank.finish(0), done(0));
+}
+
+/// 01, Address request and take: "10 (not ENTDAA ...)"; 0x87 is not ENTDAA.
+#[test]
+fn address_events_need_entdaa() {
+    for words in [&[0x10][..], &[0x1e], &[CCC, 6], &[CCC | 0x10, 0x87]] {
+        let mut bank = with_device();
+        started(&mut bank, words);
+        assert_eq!(bank.address_request(0, 0), refuse(10));
+        assert_eq!(bank.address_take(), refuse(10));
+    }
+    let mut bank = with_device();
+    bank.write(0xdc, 0);
+    started(&mut bank, &[CCC | 0x10, 0x87]);
+}
+
+// Random calls against the count of demand 3.
+
+struct Random(u64);
+
+impl Random {
+    fn next(&mut self) -> u32 {
+        self.0 = self
+            .0
+            .wrapping_mul(6_364_136_223_846_793_005)
+            .wrapping_add(1_442_695_040_888_963_407);
+        (self.0 >> 33) as u32
+    }
+
+    fn below(&mut self, bound: u32) -> u32 {
+        self.next() % bound
+    }
+
+    fn word(&mut self) -> u32 {
+        self.next() << 16 ^ self.next()
+    }
+
+    fn one_of<T: Copy>(&mut self, choices: &[T]) -> T {
+        choices[self.below(choices.len() as u32) as usize]
+    }
+}
+
+fn random_command_word(random: &mut Random) -> u32 {
+    match random.below(8) {
+        0 => random.word(),
+        1 => 7,
+        2 => random.below(256),
+        3 | 4 => CCC | random.below(0x900),
+        _ => random.below(2) * HEADER | random.below(10) << 8 | 0x10 | random.below(4),
+    }
+}
+
+fn random_write(random: &mut Random) -> Call {
+    let (offset, value) = match random.below(16) {
+        0..=4 => (0xd4, random_command_word(random)),
+        5..=8 => (0xdc, random.word()),
+        9 | 10 => (0x180, 0x1100 | random.below(0x400)),
+        11 => (0x140, random.below(8) | random.below(2) * 3),
+        12 => (0x100, random.word() & !random.one_of(&[0, 1, 1, 1])),
+        13 => (0x84, random.word()),
+        14 => (0x40, u32::from(random.below(8) == 0)),
+        _ => (random.below(0x344) as u16, random.word()),
+    };
+    Call::Write { offset, value }
+}
+
+fn random_call(random: &mut Random) -> Call {
+    match random.below(20) {
+        0..=4 => random_write(random),
+        5..=7 => Call::Read {
+            offset: random.one_of(&[0x88, 0xc0, 0xd8, 0xd8, 0xe0, 0xe0, 0xe4, 0x84, 0x100]),
+        },
+        8 | 9 => Call::Start,
+        10 | 11 => Call::Send,
+        12 | 13 => Call::Receive {
+            byte: random.below(256) as u8,
+        },
+        14 | 15 => Call::Finish {
+            code: random.one_of(&[0, 0, 0, 1, 4, 6, 8, 2, 15, 16]),
+        },
+        16 => Call::InterruptRequest {
+            address: random.one_of(&[8, 8, 9, 0, 127, 128]),
+            byte: random.below(256) as u8,
+        },
+        17 => Call::AddressRequest {
+            first: random.word(),
+            second: random.word(),
+        },
+        _ => Call::AddressTake,
+    }
+}
+
+/// 01, What demand 3 counts: "All is counted from the calls and their answers".
+#[derive(Default)]
+struct Count {
+    released: bool,
+    words: Vec<u32>,
+    start_values: Vec<u32>,
+    open: bool,
+    moved: u32,
+    receipts: Vec<u32>,
+    receipts_read: Vec<u32>,
+    room_seen: bool,
+}
+
+impl Count {
+    /// "a word with bit 22 set and the next are one command, any other word is
+    /// one."
+    fn commands(&self) -> Vec<Vec<u32>> {
+        let mut commands = Vec::new();
+        let mut rest = self.words.as_slice();
+        while let Some(first) = rest.first() {
+            let size = if first & CCC != 0 { 2 } else { 1 };
+            if rest.len() < size {
+                break;
+            }
+            commands.push(rest[..size].to_vec());
+            rest = &rest[size..];
+        }
+        commands
+    }
+
+    fn open_command(&self) -> Vec<u32> {
+        self.commands()[self.start_values.len() - 1].clone()
+    }
+
+    fn note(&mut self, call: &Call, answer: Answer) {
+        if let Call::Write {
+            offset: 0xd4,
+            value,
+        } = *call
+        {
+            if self.released && self.room_seen {
+                assert_eq!(answer.number, 0, "written after a read of the room");
+            }
+            self.room_seen = false;
+            if answer.number == 0 {
+                self.words.push(value);
+            }
+            return;
+        }
+        if answer.number != 0 {
+            return;
+        }
+        match *call {
+            Call::Write {
+                offset: 0x40,
+                value,
+            } => self.note_enable(value),
+            Call::Read { offset: 0xc0 } => {
+                if answer.value > 0 {
+                    self.room_seen = true;
+                }
+            }
+            Call::Read { offset: 0xd8 } => self.receipts_read.push(answer.value),
+            Call::Start => {
+                assert!(!self.open);
+                self.open = true;
+                self.moved = 0;
+                self.start_values.push(answer.value);
+            }
+            Call::Send | Call::Receive { .. } => self.note_payload(call),
+            Call::AddressRequest { .. } | Call::AddressTake => {
+                assert!(self.open && is_entdaa(&self.open_command()));
+            }
+            Call::Finish { code } => self.note_finish(code, answer.value),
+            _ => {}
+        }
+    }
+
+    fn note_enable(&mut self, value: u32) {
+        if value & 1 == 1 {
+            *self = Count::default();
+        } else if !self.released {
+            *self = Count::default();
+            self.released = true;
+        }
+    }
+
+    fn note_payload(&mut self, call: &Call) {
+        assert!(self.open);
+        let command = self.open_command();
+        assert!(!is_entdaa(&command));
+        assert_eq!(command[0] & 1 == 0, *call == Call::Send);
+        self.moved += 1;
+    }
+
+    /// "its sync the number of earlier receipts modulo 256, its length the payload
+    /// bytes moved for it, never above the commanded length."
+    fn note_finish(&mut self, code: u8, receipt: u32) {
+        assert!(self.open);
+        self.open = false;
+        let command = self.open_command();
+        let length = if is_entdaa(&command) {
+            0
+        } else {
+            command[0] >> 8 & 0xfff
+        };
+        assert!(self.moved <= length);
+        let sync = self.receipts.len() as u32 % 256;
+        assert_eq!(receipt, u32::from(code) << 20 | self.moved << 8 | sync);
+        self.receipts.push(receipt);
+    }
+
+    fn check(&self, bank: &Bank) {
+        if !self.released {
+            return;
+        }
+        let commands = self.commands();
+        let started = self.start_values.len();
+        assert!(started <= commands.len());
+        let firsts: Vec<u32> = commands[..started].iter().map(|c| c[0]).collect();
+        assert_eq!(firsts, self.start_values);
+        let words_started: usize = commands[..started].iter().map(Vec::len).sum();
+        assert!(bank.cmd.words.iter().eq(&self.words[words_started..]));
+        assert_eq!(self.receipts.len(), started - usize::from(self.open));
+        assert_eq!(bank.transfer.is_some(), self.open);
+        assert!(self
+            .receipts_read
+            .iter()
+            .chain(&bank.cmdr.words)
+            .eq(&self.receipts));
+    }
+}
+
+fn is_entdaa(command: &[u32]) -> bool {
+    command.len() == 2 && command[1] & 0xff == 7
+}
+
+/// 01, Well formed, as far as this engine has the parts.
+fn check_well_formed(bank: &Bank) {
+    for queue in [&bank.cmd, &bank.cmdr, &bank.sdo, &bank.sdi, &bank.ibi] {
+        assert!(queue.level() <= queue.capacity);
+        assert!(!bank.in_reset || queue.is_empty());
+    }
+    if bank.in_reset {
+        assert_eq!(bank.pending, Pending::default());
+        assert_eq!((bank.receipt_sync, bank.interrupt_sync), (0, 0));
+        assert!(bank.transfer.is_none());
+    }
+    assert!(!bank.pending.receipt || !bank.cmdr.is_empty());
+    assert!(!bank.pending.interrupt || !bank.ibi.is_empty());
+    assert!(!bank.pending.address || bank.sdo.is_empty());
+    if let Some(transfer) = &bank.transfer {
+        let moved = transfer.moved;
+        assert!(moved <= transfer.command.length);
+        assert!(transfer.attached || moved == 0);
+        let (left, gathered) = (transfer.left.len() as u32, transfer.gathered.len() as u32);
+        if transfer.is_read() {
+            assert_eq!((left, gathered), (0, moved % 4));
+        } else {
+            assert_eq!((left, gathered), ((4 - moved % 4) % 4, 0));
+        }
+    }
+}
+
+#[test]
+fn random_calls_keep_demand_3() {
+    let mut seen = [false; 24];
+    let mut most_receipts = 0;
+    for seed in 0..60 {
+        let mut random = Random(seed);
+        let numbers = SetupNumbers {
+            capacities: [
+                2 + random.below(4),
+                1 + random.below(4),
+                1 + random.below(4),
+                2 + random.below(4),
+                1 + random.below(4),
+            ],
+            watermarks: [
+                random.below(3),
+                random.below(2),
+                random.below(2),
+                random.below(3),
+                random.below(2),
+            ],
+            id: random.below(256),
+        };
+        let (mut bank, answer) = set_up(&numbers);
+        assert_eq!(answer, done(0));
+        let mut count = Count::default();
+        for _ in 0..4000 {
+            let call = random_call(&mut random);
+            let before = bank.clone();
+            let answer = bank.call(&call);
+            seen[usize::from(answer.number)] = true;
+            if answer.number != 0 && answer.number != 19 {
+                assert_eq!(answer.value, 0);
+                assert_eq!(bank, before);
+            }
+            count.note(&call, answer);
+            count.check(&bank);
+            check_well_formed(&bank);
+            most_receipts = most_receipts.max(count.receipts.len());
+        }
+    }
+    // Every number but those that need a bank or store not well formed or a
+    // set-up.
+    let not_seen: Vec<usize> = (0..24).filter(|n| !seen[*n]).collect();
+    assert_eq!(not_seen, [21, 22, 23]);
+    assert!(most_receipts > 0);
+}

@@ -1,0 +1,323 @@
+//! Session lines: parsing, running and printing.
+//!
+//! 01, A session: "W offset value, R offset, S start, T send, X byte, F code, I
+//! address byte, D two words, A".
+
+use crate::engine::{set_up, Answer, Bank, Call, SetupNumbers, SESSION_NUMBERS};
+use std::io::{self, BufRead, Write};
+
+/// What one line asks for.
+#[derive(Clone, Copy, Debug, PartialEq, Eq)]
+pub enum Request {
+    Call(Call),
+    SetUp(SetupNumbers),
+}
+
+/// Which lines are read.
+#[derive(Clone, Copy, Debug, PartialEq, Eq)]
+pub enum Mode {
+    /// The lines of 01.
+    Session,
+    /// The lines of 01 and `B`, a set-up.
+    Test,
+}
+
+/// The longest line that can be a request: `B` and eleven fields of eight digits.
+const LONGEST_REQUEST: usize = 1 + 11 * 9;
+
+/// 01: "hex of either case, at most 4 digits for an offset, 8 for a value or
+/// word, 2 for the rest".
+fn parse_hex(field: &[u8], most_digits: usize) -> Option<u32> {
+    if field.is_empty() || field.len() > most_digits {
+        return None;
+    }
+    let mut value = 0;
+    for byte in field {
+        value = value << 4 | char::from(*byte).to_digit(16)?;
+    }
+    Some(value)
+}
+
+fn parse_offset(field: &[u8]) -> Option<u16> {
+    parse_hex(field, 4).and_then(|value| u16::try_from(value).ok())
+}
+
+fn parse_word(field: &[u8]) -> Option<u32> {
+    parse_hex(field, 8)
+}
+
+fn parse_byte(field: &[u8]) -> Option<u8> {
+    parse_hex(field, 2).and_then(|value| u8::try_from(value).ok())
+}
+
+/// 01: "one space between fields"; the line comes without its newline.
+fn parse_call(fields: &[&[u8]]) -> Option<Call> {
+    let call = match fields {
+        [b"W", offset, value] => Call::Write {
+            offset: parse_offset(offset)?,
+            value: parse_word(value)?,
+        },
+        [b"R", offset] => Call::Read {
+            offset: parse_offset(offset)?,
+        },
+        [b"S"] => Call::Start,
+        [b"T"] => Call::Send,
+        [b"X", byte] => Call::Receive {
+            byte: parse_byte(byte)?,
+        },
+        [b"F", code] => Call::Finish {
+            code: parse_byte(code)?,
+        },
+        [b"I", address, byte] => Call::InterruptRequest {
+            address: parse_byte(address)?,
+            byte: parse_byte(byte)?,
+        },
+        [b"D", first, second] => Call::AddressRequest {
+            first: parse_word(first)?,
+            second: parse_word(second)?,
+        },
+        [b"A"] => Call::AddressTake,
+        _ => return None,
+    };
+    Some(call)
+}
+
+/// `B`, five capacities, five watermarks, ID.
+fn parse_set_up(fields: &[&[u8]]) -> Option<SetupNumbers> {
+    let [b"B", rest @ ..] = fields else {
+        return None;
+    };
+    let numbers: Vec<u32> = rest
+        .iter()
+        .map(|field| parse_word(field))
+        .collect::<Option<_>>()?;
+    let numbers: [u32; 11] = numbers.try_into().ok()?;
+    let mut capacities = [0; 5];
+    let mut watermarks = [0; 5];
+    capacities.copy_from_slice(&numbers[0..5]);
+    watermarks.copy_from_slice(&numbers[5..10]);
+    Some(SetupNumbers {
+        capacities,
+        watermarks,
+        id: numbers[10],
+    })
+}
+
+/// 01: "other lines are skipped": those give no request.
+pub fn parse_line(line: &[u8], mode: Mode) -> Option<Request> {
+    let fields: Vec<&[u8]> = line.split(|byte| *byte == b' ').collect();
+    if let Some(call) = parse_call(&fields) {
+        return Some(Request::Call(call));
+    }
+    match mode {
+        Mode::Session => None,
+        Mode::Test => parse_set_up(&fields).map(Request::SetUp),
+    }
+}
+
+/// 01: "prints the value in eight lower-case hex digits, a space and the number
+/// in two decimal digits".
+pub fn print_answer(answer: Answer, output: &mut impl Write) -> io::Result<()> {
+    writeln!(output, "{:08x} {:02}", answer.value, answer.number)
+}
+
+/// Answers one request.
+pub fn run_request(bank: &mut Bank, request: &Request) -> Answer {
+    match request {
+        Request::Call(call) => bank.call(call),
+        Request::SetUp(numbers) => {
+            let (new_bank, answer) = set_up(numbers);
+            *bank = new_bank;
+            answer
+        }
+    }
+}
+
+fn run_line(bank: &mut Bank, line: &[u8], mode: Mode, output: &mut impl Write) -> io::Result<()> {
+    match parse_line(line, mode) {
+        Some(request) => print_answer(run_request(bank, &request), output),
+        None => Ok(()),
+    }
+}
+
+/// 01: "a line ends at a newline or the end of the input". Of a line longer than
+/// any request only enough is kept to see that it is none.
+pub fn run_session(input: impl BufRead, output: &mut impl Write, mode: Mode) -> io::Result<()> {
+    let (mut bank, _) = set_up(&SESSION_NUMBERS);
+    let mut line = Vec::with_capacity(LONGEST_REQUEST + 1);
+    for byte in input.bytes() {
+        let byte = byte?;
+        if byte == b'\n' {
+            run_line(&mut bank, &line, mode, output)?;
+            line.clear();
+        } else if line.len() <= LONGEST_REQUEST {
+            line.push(byte);
+        }
+    }
+    run_line(&mut bank, &line, mode, output)?;
+    output.flush()
+}
+
+#[cfg(test)]
+mod tests {
+    use super::*;
+
+    fn is_request(line: &[u8]) -> bool {
+        parse_line(line, Mode::Session).is_some()
+    }
+
+    fn run(input: &[u8], mode: Mode) -> String {
+        let mut output = Vec::new();
+        run_session(input, &mut output, mode).unwrap();
+        String::from_utf8(output).unwrap()
+    }
+
+    /// 01: "W offset value, R offset, S start, T send, X byte, F code, I address
+    /// byte, D two words, A".
+    #[test]
+    fn each_kind_of_line() {
+        let lines: [(&[u8], Call); 9] = [
+            (
+                b"W 00dC a5C30000",
+                Call::Write {
+                    offset: 0xdc,
+                    value: 0xa5c3_0000,
+                },
+            ),
+            (b"R fFfF", Call::Read { offset: 0xffff }),
+            (b"S", Call::Start),
+            (b"T", Call::Send),
+            (b"X 5a", Call::Receive { byte: 0x5a }),
+            (b"F ff", Call::Finish { code: 0xff }),
+            (
+                b"I 8 5A",
+                Call::InterruptRequest {
+                    address: 8,
+                    byte: 0x5a,
+                },
+            ),
+            (
+                b"D ffffffff 1",
+                Call::AddressRequest {
+                    first: 0xffff_ffff,
+                    second: 1,
+                },
+            ),
+            (b"A", Call::AddressTake),
+        ];
+        for (line, call) in lines {
+            assert_eq!(parse_line(line, Mode::Session), Some(Request::Call(call)));
+        }
+    }
+
+    /// 01: "at most 4 digits for an offset, 8 for a value or word, 2 for the
+    /// rest; one space between fields ...; other lines are skipped".
+    #[test]
+    fn lines_that_are_no_call() {
+        let lines: [&[u8]; 40] = [
+            b"",
+            b" ",
+            b"s",
+            b" S",
+            b"S ",
+            b"S\r",
+            b"S\t",
+            b"S 0",
+            b"T 0",
+            b"A 0",
+            b"SS",
+            b"R",
+            b"R ",
+            b"R  0",
+            b" R 0",
+            b"R 0 ",
+            b"R\t0",
+            b"R 0\r",
+            b"R 00000",
+            b"R 0x0",
+            b"R +0",
+            b"R -0",
+            b"R g",
+            b"R 0 0",
+            b"r 0",
+            b"W 0",
+            b"W 0 000000000",
+            b"W 00000 0",
+            b"W 0  0",
+            b"W 0 0 0",
+            b"X 000",
+            b"X",
+            b"F 000",
+            b"I 000 0",
+            b"I 0 000",
+            b"I 0",
+            b"D 0",
+            b"D 000000000 0",
+            b"R 0\0",
+            b"R \xff",
+        ];
+        for line in lines {
+            assert!(!is_request(line), "{:?}", String::from_utf8_lossy(line));
+        }
+        assert!(!is_request(b"B 4 4 4 4 4 1 3 1 3 3 0"));
+    }
+
+    #[test]
+    fn lines_end_at_a_newline_or_the_end() {
+        assert_eq!(run(b"", Mode::Session), "");
+        assert_eq!(run(b"\n\n", Mode::Session), "");
+        assert_eq!(run(b"R 0", Mode::Session), "00000100 00\n");
+        assert_eq!(run(b"R 0\n", Mode::Session), "00000100 00\n");
+        assert_eq!(
+            run(b"\nR 0\n\nR 4", Mode::Session),
+            "00000100 00\n00000000 00\n"
+        );
+        assert_eq!(run(b"R 0\r\nR 0\n", Mode::Session), "00000100 00\n");
+    }
+
+    #[test]
+    fn a_long_line_is_skipped_whole() {
+        let mut input = vec![b'S'; 1_000_000];
+        input.extend(b"\nS\n");
+        assert_eq!(run(&input, Mode::Session), "00000000 05\n");
+        let mut input = b"R 0".to_vec();
+        input.extend(vec![b' '; 1_000_000]);
+        input.extend(b"R 0\n");
+        assert_eq!(run(&input, Mode::Session), "");
+    }
+
+    #[test]
+    fn set_up_lines_belong_to_test_mode() {
+        let input = b"B 4 4 4 4 4 1 3 1 3 3 7\nR 4\n";
+        assert_eq!(run(input, Mode::Session), "00000000 00\n");
+        assert_eq!(run(input, Mode::Test), "00000000 00\n00000007 00\n");
+    }
+
+    #[test]
+    fn the_longest_set_up_line() {
+        let line = b"B 00000400 00000400 00000400 00000400 00000400 \
+                     00000400 00000400 00000400 00000400 00000400 000000ff";
+        assert_eq!(line.len(), LONGEST_REQUEST);
+        let mut input = line.to_vec();
+        input.extend(b"\nR c0\nR 4\n");
+        assert_eq!(
+            run(&input, Mode::Test),
+            "00000000 00\n00000400 00\n000000ff 00\n"
+        );
+        let mut input = line.to_vec();
+        input.extend(b"0\n");
+        assert_eq!(run(&input, Mode::Test), "");
+    }
+
+    /// 01: "23 with a bank whose every number is 0"; that bank is not well formed.
+    #[test]
+    fn after_23_every_call_is_21() {
+        let input =
+            b"B 0 0 0 0 0 0 0 0 0 0 0\nR 0\nR 1\nW 40 0\nS\nT\nX 0\nF 10\nI 80 0\nD 0 0\nA\n\
+                      B 4 4 4 4 4 1 3 1 3 3 0\nR 40\n";
+        let expected = "00000000 23\n".to_string()
+            + &"00000000 21\n".repeat(10)
+            + "00000000 00\n00000001 00\n";
+        assert_eq!(run(input, Mode::Test), expected);
+    }
+}

@@ -31,8 +31,8 @@ use Rattle.model.specs.Calls.{decide, finish}
 use Rattle.model.specs.Engine.{Step, outcome, step, final}
 use Rattle.model.specs.Rings.{Controller, areas, wordsIn, viewRings, onRing, onStore, settleRings, guardRings, rings}
 use Rattle.model.specs.Lists.{Lists, viewLists, settleLists, lists}
-use Rattle.model.specs.Laws.{fresh, freshLists, RefusalChangesNothing, StaysWellFormed}
-use Rattle.model.specs.Driver.{shownOf, Within, PlainWriteTaken, ReadBack, RoomAndWords, takesWord, ReadChangesNothing, ReadTook, ReadTakesOne, Clean, ReleasedClean, Outlives, ResetKeeps, reads, RefusedFinishAgain}
+use Rattle.model.specs.Laws.{fresh, freshLists, same, RefusalChangesNothing, StaysWellFormed}
+use Rattle.model.specs.Driver.{shownOf, Within, PlainWriteTaken, ReadBack, RoomAndWords, takesWord, ReadChangesNothing, ControlAfter, ReadTook, ReadTakesOne, Clean, ReleasedClean, Outlives, ResetKeeps, reads, RefusedFinishAgain}
 use Rattle.model.proofs.Tests.{Refusal}
 use Rattle.model.proofs.Room.{by-queue}
 use Rattle.model.proofs.Formed.{read-untouched}
@@ -149,12 +149,23 @@ take-stores-none l Sdo = refl
 take-stores-none l Sdi = refl
 take-stores-none l Ibi = refl
 
+cleared-if : (b old : Bool) → (not b && old) ≡ cond b false old
+cleared-if true old = refl
+cleared-if false old = refl
+
+control-after : (q : Queue) (b : Bool) (c : Control) → same Sdo q ≡ false → ControlAfter q b c (clears q b c)
+control-after Cmd b c h = record { held = refl; sync = refl; ibisync = refl; cmdrpending = refl; ibipending = refl; daapending = refl }
+control-after Cmdr b c h = record { held = refl; sync = refl; ibisync = refl; cmdrpending = cleared-if b (c .cmdrpending); ibipending = refl; daapending = refl }
+control-after Sdo b c h = absurd (true≢false h)
+control-after Sdi b c h = record { held = refl; sync = refl; ibisync = refl; cmdrpending = refl; ibipending = refl; daapending = refl }
+control-after Ibi b c h = record { held = refl; sync = refl; ibisync = refl; cmdrpending = refl; ibipending = cleared-if b (c .ibipending); daapending = refl }
+
 pub read-takes-one : ReadTakesOne
 unfolding ReadTakesOne
-read-takes-one l o q e n =
+read-takes-one l o q e h n =
     let at : settleRings l (effect (read (takes q) (viewRings l))) ≡ step rings l (Read o) .next = sym (ap (λ (r : Step Controller). r .next) (served l (Read o) n .2) ∙ ap (λ (x : Row). settleRings l (effect (read x (viewRings l)))) e) in
     subst (λ (m : Controller). ReadTook l m q) at
-    (record { store = take-stores-none l q; regs = refl; phase = refl; flags = refl; commands = refl; payloads = refl; control = refl })
+    (record { store = take-stores-none l q; regs = refl; phase = refl; flags = refl; commands = refl; payloads = refl; control = control-after q _ (l .bank .state .control) h })
 
 -- ── Reset and release ─────────────────────────────────────────────────────────────────────────────────────────
 enable-keeps : (l : Controller) (b : Bool) → Outlives l (settleRings l (enable (viewRings l) b))

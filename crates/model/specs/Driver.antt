@@ -1,9 +1,10 @@
 -- Laws that a driver author asks for, as statements about `step`. proofs/Driver.antt has a proof of each.
 use Prim.Native.Nat.{ℕ, _+_, _*_, _%_, _^_, _<_}
 use mathlib.Core.Path.{_≡_}
-use mathlib.Core.Bool.{Bool, true, false, cond}
+use mathlib.Core.Bool.{Bool, true, false, cond, _&&_}
 use mathlib.Core.List.{List, [], _∷_}
 use lib.ListN.{length, getD}
+use Rattle.bank.specs.declared.Control.{Control}
 use Rattle.bank.specs.declared.Sizes.{Sizes}
 use Rattle.bank.specs.Phases.{idle, transfer}
 use Rattle.bank.specs.SetUp.{setUp, total, cleared}
@@ -11,12 +12,12 @@ use Rattle.bank.specs.Formed.{wellFormed}
 use Rattle.registers.specs.Map.{registerAt}
 use Rattle.model.specs.declared.Call.{Call}
 use Rattle.model.specs.declared.Call.the-variants.{Read, Write, Finish}
-use Rattle.model.specs.View.{bit, bits, weigh, Queue, of, last}
+use Rattle.model.specs.View.{bit, bits, weigh, Queue, Cmdr, Sdo, Ibi, of, last}
 use Rattle.model.specs.Commands.{receiptWord}
-use Rattle.model.specs.Registers.{Cell, scratch, mask, ops, ibiConfig, devChar, offloadCmd, offloadSdo, Row, absent, shows, holds, pushes, takes, enables, acknowledges, row, clears}
+use Rattle.model.specs.Registers.{Cell, scratch, mask, ops, ibiConfig, devChar, offloadCmd, offloadSdo, Row, absent, shows, holds, pushes, takes, enables, acknowledges, row}
 use Rattle.model.specs.Engine.{step, final}
 use Rattle.model.specs.Rings.{Controller, areas, wordsIn, viewRings, rings}
-use Rattle.model.specs.Laws.{fresh}
+use Rattle.model.specs.Laws.{fresh, same}
 
 -- ── What is written is read back, by the register's named bits ────────────────────────────────────────────────
 -- the bits that a read shows of a word written: IBI_CONFIG is write-only; OPS has its bit 7 from the transfer; DEV_CHAR shows the
@@ -73,7 +74,15 @@ takesWord acknowledges = false
 unfoldable pub ReadChangesNothing : Type 0
 ReadChangesNothing = (l : Controller) (o : ℕ) → takesWord (row (registerAt o)) ≡ false → step rings l (Read o) .next ≡ l
 
--- of those three: that queue (the law OthersStay has the other queues) and its pending bit where it is then empty
+-- of those three: that queue (the law OthersStay has the other queues) and, of CMDR and IBI, its pending bit where it is then empty
+pub record ControlAfter (q : Queue) (emptied : Bool) (c d : Control) : Type 0 where
+  pub held : d .held ≡ c .held
+  pub sync : d .sync ≡ c .sync
+  pub ibisync : d .ibisync ≡ c .ibisync
+  pub cmdrpending : d .cmdrpending ≡ cond (same Cmdr q && emptied) false (c .cmdrpending)
+  pub ibipending : d .ibipending ≡ cond (same Ibi q && emptied) false (c .ibipending)
+  pub daapending : d .daapending ≡ c .daapending
+
 pub record ReadTook (l m : Controller) (q : Queue) : Type 0 where
   pub store : m .store ≡ l .store
   pub regs : m .bank .state .regs ≡ l .bank .state .regs
@@ -81,10 +90,10 @@ pub record ReadTook (l m : Controller) (q : Queue) : Type 0 where
   pub flags : m .bank .flags ≡ l .bank .flags
   pub commands : m .bank .commands ≡ l .bank .commands
   pub payloads : m .bank .payloads ≡ l .bank .payloads
-  pub control : m .bank .state .control ≡ clears q (last (of q (viewRings l .queues))) (l .bank .state .control)
+  pub control : ControlAfter q (last (of q (viewRings l .queues))) (l .bank .state .control) (m .bank .state .control)
 
 unfoldable pub ReadTakesOne : Type 0
-ReadTakesOne = (l : Controller) (o : ℕ) (q : Queue) → row (registerAt o) ≡ takes q → step rings l (Read o) .answer .number ≡ 0 → ReadTook l (step rings l (Read o) .next) q
+ReadTakesOne = (l : Controller) (o : ℕ) (q : Queue) → row (registerAt o) ≡ takes q → same Sdo q ≡ false → step rings l (Read o) .answer .number ≡ 0 → ReadTook l (step rings l (Read o) .next) q
 
 -- ── Reset and release ─────────────────────────────────────────────────────────────────────────────────────────
 -- after a release: no transfer, syncs and pending bits 0, all queues empty, whatever was before

@@ -1,0 +1,46 @@
+-- `lines::end_line` meets its contract.
+use Rattle.lines.proofs.Cutting.{silent, spoken}
+use Rattle.answer.specs.Given.{controller}
+use borrow.Author.Tests.{not-true, not-false}
+use lib.ListN.{take}
+use Prim.Native.Nat.{_+_}
+use borrow.Author.Needs.{needs}
+use Rattle.lines.proofs.end_line.Statement.{statement}
+use Rattle.lines.proofs.end_line.Tie as tie
+
+add-end : tie.Need-add-end
+add-end c = search needs
+
+run-requires : tie.Need-run-requires
+run-requires c κs = search needs
+
+same-length : tie.Need-same-length
+same-length c = search needs
+
+returns : tie.Need-returns
+returns c = let a = c .before .before .before .before .before .before .before .before .before .args in (silent (controller (a .b) (a .store .now)) (a .line) (c .before .before .before .before .before .run .result) (c .before .before .before .before .before .run .last .1 .0) (take (a .at) (a .out .now)) (c .before .before .before .before .before .run .ensures) (not-true _ (c .if1 .taken)), search needs)
+
+put-requires : tie.Need-put-requires
+put-requires c κs = search needs
+
+same-length-2 : tie.Need-same-length-2
+same-length-2 c = search needs
+
+same-length-3 : tie.Need-same-length-3
+same-length-3 c = search needs
+
+returns-2 : tie.Need-returns-2
+returns-2 c = let a = c .before .before .before .before .before .before .before .before .before .before .before .before .before .before .args in (spoken (controller (a .b) (a .store .now)) (a .line) (c .before .before .before .before .before .before .before .before .before .before .run .result) (c .before .before .before .before .before .before .before .before .before .before .run .last .1 .0) (take (a .at) (a .out .now)) (take (a .at + 12) (c .before .before .put .last .0)) (c .before .before .before .before .before .before .before .before .before .before .run .ensures) (not-false _ (c .before .before .before .before .before .if1 .left)) (c .before .before .put .ensures), search needs)
+
+pub end-line-spec : {M : Type 1} → statement M
+end-line-spec =
+    tie.close
+    (tie.spec
+    add-end
+    run-requires
+    same-length
+    returns
+    put-requires
+    same-length-2
+    same-length-3
+    returns-2)

@@ -1,0 +1,23 @@
+-- `lines::serve` meets its contract.
+use Rattle.lines.specs.Session.{told, answerLine}
+use Rattle.model.specs.Rings.{Controller}
+use Rattle.model.specs.Engine.{Step}
+use mathlib.Core.Path.{ap}
+use borrow.Author.Needs.{needs}
+use Rattle.lines.proofs.serve.Statement.{statement}
+use Rattle.lines.proofs.serve.Tie as tie
+
+step-requires : tie.Need-step-requires
+step-requires c κs = search needs
+
+line-requires : tie.Need-line-requires
+line-requires c κs = search needs
+
+same-length : tie.Need-same-length
+same-length c = search needs
+
+returns : tie.Need-returns
+returns c = rw (c .before .line .ensures) (ap (λ (x : Step Controller). told (x .next) (answerLine (x .answer))) (c .before .before .before .before .step .ensures))
+
+pub serve-spec : {M : Type 1} → statement M
+serve-spec = tie.close (tie.spec step-requires line-requires same-length returns)

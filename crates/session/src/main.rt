@@ -1,0 +1,96 @@
+// 01's session: lines from standard input, the answers of the calls that they name to standard output. It reads and
+// writes in pieces, and holds no line.
+ghost use Prim.Native.Nat.{_≤_};
+ghost use lib.ListN.{length};
+use bank::Bank;
+use bank::Sizes;
+use lines::Reading;
+
+// The bank and the line so far; whether there may be more to read; whether all output was written.
+struct Went {
+    bank: Bank,
+    line: Reading,
+    more: bool,
+    written: bool,
+}
+
+// 01: "Its bank has every capacity 4, almost-empty watermarks 1, almost-full 3, ID 0."
+fn fresh() -> Bank {
+    let caps = Sizes {
+        cmd: 4,
+        cmdr: 4,
+        sdo: 4,
+        sdi: 4,
+        ibi: 4,
+    };
+    let marks = Sizes {
+        cmd: 1,
+        cmdr: 3,
+        sdo: 1,
+        sdi: 3,
+        ibi: 3,
+    };
+    let r = setup::set_up(caps, marks, 0);
+    r.bank
+}
+
+// The next piece of the input.
+fn turn(b: Bank, line: Reading, store: &mut [u32], out: &mut [u8]) -> Went
+    requires { ⌜ 49152 ≤ length (now out) ⌝ }
+{
+    let mut piece = [0u8; 4096];
+    let got = libc::read(0, &mut piece);
+    if got <= 0 {
+        return Went {
+            bank: b,
+            line: line,
+            more: false,
+            written: true,
+        };
+    }
+    let n = io::count(got, &piece);
+    let f = lines::feed(b, store, line, &piece[..n], out);
+    let m = f.count;
+    let ok = io::write_all(1, &out[..m]);
+    let next = f.bank;
+    let rest = f.line;
+    Went {
+        bank: next,
+        line: rest,
+        more: ok,
+        written: ok,
+    }
+}
+
+// The end of the input ends the last line.
+fn end(b: Bank, line: Reading, store: &mut [u32], out: &mut [u8])
+    requires { ⌜ 12 ≤ length (now out) ⌝ }
+{
+    let e = lines::end_line(b, store, line, out, 0);
+    let m = e.count;
+    io::write_all(1, &out[..m]);
+}
+
+fn main() {
+    let mut store = [0u32; 20];
+    let mut out = io::large_buffer();
+    let mut bank = fresh();
+    let mut line = lines::begin();
+    let mut written = true;
+    let mut more = true;
+    let mut turns = u64::MAX;
+    while more {
+        if turns == 0 {
+            return;
+        }
+        turns -= 1;
+        let t = turn(bank, line, &mut store, &mut out);
+        bank = t.bank;
+        line = t.line;
+        more = t.more;
+        written = t.written;
+    }
+    if written {
+        end(bank, line, &mut store, &mut out);
+    }
+}

@@ -1,5 +1,5 @@
 -- A call that the two tests of bank and store refuse, or pass.
-use Prim.Native.Nat.{ℕ}
+use Prim.Native.Nat.{ℕ, zero, suc}
 use native.Mathlib.Omega.{arith}
 use mathlib.Core.Path.{_≡_, refl, ap, sym}
 use mathlib.Core.Bool.{Bool, true, false, not}
@@ -7,16 +7,18 @@ use mathlib.Core.List.{List}
 use mathlib.Core.Option.{Option, some}
 use lib.Dec.{eqb}
 use lib.ListN.{length}
-use borrow.Author.Tests.{eqb-true}
+use borrow.Author.Tests.{eqb-true, eq-eqb}
 use Rattle.bank.specs.declared.Bank.{Bank}
 use Rattle.bank.specs.SetUp.{total}
 use Rattle.bank.specs.Formed.{wellFormed}
-use Rattle.bank.proofs.Laws.{formed-of}
+use Rattle.bank.proofs.Laws.{formed-of, formed-is}
 use Rattle.model.specs.declared.Call.{Call}
 use Rattle.model.specs.Decision.{Decision, _⇒_∣_, first, effect}
 use Rattle.model.specs.Calls.{decide}
-use Rattle.model.specs.Engine.{step, outcome}
-use Rattle.model.specs.Rings.{rings, guardRings, settleRings}
+use Rattle.model.specs.Engine.{Step, step, outcome}
+use Rattle.model.specs.Rings.{Controller, rings, guardRings, settleRings}
+use Rattle.model.proofs.Rings.{listed}
+use Rattle.model.proofs.Simulation.{stays-sound}
 use Rattle.answer.specs.Given.{controller, tablesOf, view, givenOut, decided, Open}
 use Rattle.controller.specs.Faults.{faultBy, faultNumber, refusedOut}
 
@@ -49,3 +51,16 @@ opens b s e =
     let t = both (wellFormed b) (eqb (length s) (total (b .state .queues))) e in
     let f = formed-of b (t .0) in
     record { queues = f .queues; regs = f .regs; phase = f .phase; size = eqb-true (length s) (total (b .state .queues)) (t .1) }
+
+-- no call changes what the two tests say
+pub kept : (b : Bank) (s : List ℕ) (c : Call) → (let l = step rings (controller b s) c .next in faultNumber (l .bank) (length (l .store)) ≡ faultNumber b (length s))
+kept b s c = go (faultNumber b (length s)) refl
+  where
+    l : Controller
+    l = step rings (controller b s) c .next
+    go : (n : ℕ) → faultNumber b (length s) ≡ n → faultNumber (l .bank) (length (l .store)) ≡ faultNumber b (length s)
+    go zero e =
+        let t = both (wellFormed b) (eqb (length s) (total (b .state .queues))) e in
+        let n = stays-sound (controller b s) (listed (controller b s)) c (record { is = refl; formed = formed-of b (t .0); size = eqb-true (length s) (total (b .state .queues)) (t .1) }) in
+        rw (formed-is (l .bank) (n .formed), eq-eqb (length (l .store)) (total (l .bank .state .queues)) (n .size)) (sym e)
+    go (suc n) e = ap (λ (r : Step Controller). faultNumber (r .next .bank) (length (r .next .store))) (sym (faulty b s c (suc n) (λ z. omega arith) (sym e)))

@@ -5,7 +5,8 @@ ghost use Rattle.model.specs.declared.Call.the-variants.{Read, Write, Start, Se
 ghost use Rattle.model.specs.Calls.{decide};
 ghost use Rattle.model.specs.Engine.{step};
 ghost use Rattle.model.specs.Rings.{rings};
-ghost use Rattle.answer.specs.Given.{controller, tables, tablesOf, view, given, givenOut, decided, Open};
+ghost use lib.ListN.{length};
+ghost use Rattle.answer.specs.Given.{bankWith, controller, tables, tablesOf, view, given, givenOut, decided, Open};
 ghost use Rattle.controller.specs.Faults.{faultNumber, refusedOut, nextOut};
 use answer::Next;
 use answer::Out;
@@ -15,7 +16,7 @@ use bank::State;
 use model::Call;
 
 // 21 for a bank that is not well formed, 22 for a store of another length, else 0.
-fn fault(b: Bank, len: usize) -> u32
+pub fn fault(b: Bank, len: usize) -> u32
     ensures { λ r. ⌜ r ≡ faultNumber b len ⌝ }
 {
     let ok = formed::well_formed(b);
@@ -208,17 +209,34 @@ fn serve(
     }
 }
 
+// Any call on a state and its lent tables, where the number of the two tests is known: a layer, no interface. It is for
+// lists of calls: no call changes what the two tests say.
+pub fn step_parts(
+    st: State,
+    flags: &mut [u8; 128],
+    commands: &mut [u32; 16],
+    payloads: &mut [u32; 16],
+    store: &mut [u32],
+    fault: u32,
+    call: Call,
+) -> Next
+    requires { ⌜ fault ≡ faultNumber (bankWith st (tables (now flags) (now commands) (now payloads))) (length (now store)) ⌝ }
+    ensures { λ y. ⌜ given y (tables (now (flags .exit)) (now (commands .exit)) (now (payloads .exit))) (now (store .exit)) ≡ step rings (controller (bankWith st (tables (now (flags .entry)) (now (commands .entry)) (now (payloads .entry)))) (now (store .entry))) call ⌝ }
+{
+    if fault != 0 {
+        return answer::refuse(st, fault);
+    }
+    serve(st, flags, commands, payloads, store, call)
+}
+
 // Any call.
 pub fn step(b: Bank, store: &mut [u32], call: Call) -> Out
     ensures { λ y. ⌜ givenOut y (now (store .exit)) ≡ step rings (controller b (now (store .entry))) call ⌝ }
 {
     let n = fault(b, store.len());
-    if n != 0 {
-        return refuse(b, n);
-    }
     let mut f = b.flags;
     let mut c = b.commands;
     let mut p = b.payloads;
-    let y = serve(b.state, &mut f, &mut c, &mut p, store, call);
+    let y = step_parts(b.state, &mut f, &mut c, &mut p, store, n, call);
     with_tables(y, f, c, p)
 }

@@ -62,7 +62,7 @@ decided st t s d = let l = controller (bankWith st t) s in outcome (first d) (ef
 abbrev pub served : State → Tables → List ℕ → Effect → Step Controller
 served st t s e = let l = controller (bankWith st t) s in outcome none e l (settleRings l e)
 
--- a state and a store that passed the two tests, but for the flags
+-- what the calls behind the two tests use of them: all but the flags and what well-formed asks in reset
 pub record Open (st : State) (s : List ℕ) : Type 0 where
   pub queues : queuesOk (st .queues) ≡ true
   pub regs : regsOk (st .regs) ≡ true

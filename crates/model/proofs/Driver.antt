@@ -1,17 +1,17 @@
 -- The laws that a driver author asks for.
-use Prim.Native.Nat.{ℕ, _+_, _-_, _*_, _^_, _<_, _≤_}
+use Prim.Native.Nat.{ℕ, zero, suc, _+_, _-_, _*_, _^_, _<_, _≤_}
 use native.Mathlib.Omega.{arith}
 use mathlib.Core.Path.{_≡_, refl, ap, sym, _∙_, subst}
 use mathlib.Core.Bool.{Bool, true, false, cond, not, _&&_, _||_, true≢false, false≢true}
 use mathlib.Core.List.{List, [], _∷_}
 use mathlib.Core.Option.{Option, none, some}
-use lib.Dec.{eqb}
-use lib.ListN.{length, getD, set}
+use lib.Dec.{eqb, ltb}
+use lib.ListN.{length, getD, set, drop}
 use lib.Seq.{getD-set-same}
-use borrow.Author.Tests.{eq-eqb, eqb-true, not-true}
+use borrow.Author.Tests.{eq-eqb, eqb-true, eqb-false, not-true, not-false}
 use Rattle.ring.specs.declared.Ring.{Ring}
 use Rattle.ring.specs.Ring.{entries}
-use Rattle.ring.proofs.Laws.{entries-length}
+use Rattle.ring.proofs.Laws.{entries-length, entries-take}
 use Rattle.bank.specs.declared.Control.{Control}
 use Rattle.bank.specs.declared.Phase.{Phase}
 use Rattle.bank.specs.declared.Queues.{Queues}
@@ -24,19 +24,20 @@ use Rattle.registers.specs.Map.{named, find, registerAt}
 use Rattle.model.specs.declared.Call.{Call}
 use Rattle.model.specs.declared.Call.the-variants.{Read, Write, Finish}
 use Rattle.model.specs.View.{bit, bits, Queue, Cmd, Cmdr, Sdo, Sdi, Ibi, of, View}
-use Rattle.model.specs.Decision.{Effect, first, effect}
+use Rattle.model.specs.Decision.{QueueOp, take, only, Effect, Decision, does, _⇒_∣_, first, effect}
 use Rattle.model.specs.Commands.{receiptWord}
 use Rattle.model.specs.Registers.{Cell, scratch, mask, ops, ibiConfig, devChar, offloadCmd, offloadSdo, Row, absent, shows, holds, pushes, takes, enables, acknowledges, row, shown, clears, released, enable, read, write}
-use Rattle.model.specs.Calls.{decide, finish}
+use Rattle.model.specs.Calls.{allowed, decide, finish}
 use Rattle.model.specs.Engine.{Step, outcome, step, final}
-use Rattle.model.specs.Rings.{Controller, areas, wordsIn, viewRings, onRing, onStore, settleRings, guardRings, rings}
+use Rattle.model.specs.Rings.{Area, Controller, areas, wordsIn, viewRings, onRings, onRing, onStore, settleRings, guardRings, rings}
 use Rattle.model.specs.Lists.{Lists, viewLists, settleLists, lists}
 use Rattle.model.specs.Laws.{fresh, freshLists, same, RefusalChangesNothing, StaysWellFormed}
-use Rattle.model.specs.Driver.{shownOf, Within, PlainWriteTaken, ReadBack, RoomAndWords, takesWord, ReadChangesNothing, ControlAfter, ReadTook, ReadTakesOne, Clean, ReleasedClean, Outlives, ResetKeeps, reads, RefusedFinishAgain}
-use Rattle.model.proofs.Tests.{Refusal}
+use Rattle.model.specs.Driver.{wordsOf, noRoom, shownOf, Within, PlainWriteTaken, ReadBack, RoomAndWords, takesWord, ReadChangesNothing, ControlAfter, ReadTook, ReadTakesOne, Clean, ReleasedClean, Outlives, ResetKeeps, reads, RefusedFinishAgain}
+use Rattle.model.proofs.Tests.{Refusal, Passed}
 use Rattle.model.proofs.Room.{by-queue}
 use Rattle.model.proofs.Formed.{read-untouched}
-use Rattle.model.proofs.Simulation.{same-final, stays-well-formed}
+use Rattle.model.proofs.Simulation.{stays-sound, same-final, stays-well-formed}
+use Rattle.model.proofs.Rings.{listed, onArea, base-same}
 use Rattle.model.proofs.Laws.{by-outcome, fresh-sound, refusal-changes-nothing}
 
 abbrev settled : Controller → Call → Step Controller
@@ -160,12 +161,53 @@ control-after Sdo b c h = absurd (true≢false h)
 control-after Sdi b c h = record { held = refl; sync = refl; ibisync = refl; cmdrpending = refl; ibipending = refl; daapending = refl }
 control-after Ibi b c h = record { held = refl; sync = refl; ibisync = refl; cmdrpending = refl; ibipending = cleared-if b (c .ibipending); daapending = refl }
 
+only-takes : (q : Queue) → of q (only q (take 1)) ≡ take 1
+only-takes Cmd = refl
+only-takes Cmdr = refl
+only-takes Sdo = refl
+only-takes Sdi = refl
+only-takes Ibi = refl
+
+level-of : (l : Controller) (q : Queue) → of q (viewRings l .queues) .level ≡ of q (areas (l .bank .state .queues)) .ring .level .0
+level-of l Cmd = refl
+level-of l Cmdr = refl
+level-of l Sdo = refl
+level-of l Sdi = refl
+level-of l Ibi = refl
+
+first-of : (l : Controller) (q : Queue) → of q (viewRings l .queues) .first ≡ getD (wordsOf q l) 0 0
+first-of l Cmd = refl
+first-of l Cmdr = refl
+first-of l Sdo = refl
+first-of l Sdi = refl
+first-of l Ibi = refl
+
+some-left : (n m : ℕ) → n ≡ m → (n ≡ 0 → ⊥) → 1 ≤ m
+some-left zero m e k = absurd (k refl)
+some-left (suc n) m e k = omega (arith, e)
+
+one-less : (l : Controller) (q : Queue) → wellFormed (l .bank) ≡ true → RightLength l → eqb (of q (viewRings l .queues) .level) 0 ≡ false → wordsOf q (settleRings l (effect (read (takes q) (viewRings l)))) ≡ drop 1 (wordsOf q l)
+unfolding onRing
+one-less l q f z h =
+    let k = l .bank .state .queues in
+    let a = of q (areas k) in
+    let at = base-same k (l .store) (only q (take 1)) (ready k (l .store) (formed-of (l .bank) f .queues) z) q ∙ ap (λ (o : QueueOp). onArea o a) (only-takes q) in
+    let some = eqb-false (of q (viewRings l .queues) .level) 0 h in
+    let same = level-of l q in
+    ap (λ (s : List ℕ). wordsIn (of q (areas (onRings (only q (take 1)) k))) s) (take-stores-none l q)
+    ∙ ap (λ (x : Area). wordsIn x (l .store)) at
+    ∙ entries-take (a .ring) (a .base) (l .store) 1 (some-left _ _ same some)
+
+took : (l : Controller) (q : Queue) → wellFormed (l .bank) ≡ true → RightLength l → same Sdo q ≡ false → eqb (of q (viewRings l .queues) .level) 0 ≡ false → (let e = effect (read (takes q) (viewRings l)) in ReadTook l (settleRings l e) (e .value) q)
+took l q f z h k =
+    record { first = first-of l q; words = one-less l q f z k; store = take-stores-none l q; regs = refl; phase = refl; flags = refl; commands = refl; payloads = refl; control = control-after q _ (l .bank .state .control) h }
+
 pub read-takes-one : ReadTakesOne
 unfolding ReadTakesOne
-read-takes-one l o q e h n =
-    let at : settleRings l (effect (read (takes q) (viewRings l))) ≡ step rings l (Read o) .next = sym (ap (λ (r : Step Controller). r .next) (served l (Read o) n .2) ∙ ap (λ (x : Row). settleRings l (effect (read x (viewRings l)))) e) in
-    subst (λ (m : Controller). ReadTook l m q) at
-    (record { store = take-stores-none l q; regs = refl; phase = refl; flags = refl; commands = refl; payloads = refl; control = control-after q _ (l .bank .state .control) h })
+read-takes-one l o q e h =
+    by-outcome (λ r. r .answer .number ≡ 0 → ReadTook l (r .next) (r .answer .value) q) l (Read o) (λ n k z. absurd (not-zero n k z))
+    (λ f z p _.
+    subst (λ (x : Row). Passed (read x (viewRings l)) → (let d = effect (read x (viewRings l)) in ReadTook l (settleRings l d) (d .value) q)) (sym e) (λ g. took l q f z h (g .0)) p)
 
 -- ── Reset and release ─────────────────────────────────────────────────────────────────────────────────────────
 enable-keeps : (l : Controller) (b : Bool) → Outlives l (settleRings l (enable (viewRings l) b))
@@ -207,54 +249,118 @@ all-clear : (l : Controller) → wellFormed (l .bank) ≡ true → l .bank .stat
 unfolding resetOk
 all-clear l f h = let s = l .bank .state in three (queuesClear (s .queues)) (controlClear (s .control)) (idle (s .phase)) (while-held (s .control .held) (queuesClear (s .queues) && controlClear (s .control) && idle (s .phase)) h (formed-of (l .bank) f .reset))
 
+enable-taken : (l : Controller) (v : ℕ) → wellFormed (l .bank) ≡ true → RightLength l → step rings l (Write 0x040 v) ≡ settled l (Write 0x040 v)
+unfolding step guardRings named find
+enable-taken l v f z = rw (f, eq-eqb (length (l .store)) (total (l .bank .state .queues)) z)
+
+enabled-answer : (l : Controller) (b : Bool) → outcome none (enable (viewRings l) b) l (settleRings l (enable (viewRings l) b)) .answer ≡ record { value = 0; number = 0 }
+unfolding enable
+enabled-answer l true = refl
+enabled-answer l false = refl
+
+reset-holds : (l : Controller) → settled l (Write 0x040 1) .next .bank .state .control .held ≡ true
+unfolding named find enable
+reset-holds l = refl
+
+freed : (m : Controller) → wellFormed (m .bank) ≡ true → m .bank .state .control .held ≡ true → Clean (settled m (Write 0x040 0) .next)
+unfolding named find enable onRing onStore
+freed m f h = let z = all-clear m f h in record { control = control-none (m .bank .state .control) (z .1); phase = z .2; words = queues-none (m .bank .state .queues) (m .store) (z .0) }
+
 pub released-clean : ReleasedClean
-unfolding ReleasedClean named find enable onRing onStore
-released-clean l v h e n =
-    let s = served l (Write 0x040 v) n in
-    let z = all-clear l (s .0) h in
-    let at : step rings l (Write 0x040 v) .next ≡ settleRings l (enable (viewRings l) false) = ap (λ (r : Step Controller). r .next) (s .2) ∙ ap (λ (b : Bool). settleRings l (enable (viewRings l) b)) e in
-    subst Clean (sym at) (record { control = control-none (l .bank .state .control) (z .1); phase = z .2; words = queues-none (l .bank .state .queues) (l .store) (z .0) })
+unfolding ReleasedClean named find
+released-clean l f z =
+    let s = stays-sound l (listed l) (Write 0x040 1) (record { is = refl; formed = formed-of (l .bank) f; size = z }) in
+    let m = step rings l (Write 0x040 1) .next in
+    let g = formed-is (m .bank) (s .formed) in
+    let a = enable-taken l 1 f z in
+    let b = enable-taken m 0 g (s .size) in
+    (ap (λ (r : Step Controller). r .answer) a ∙ enabled-answer l true, ap (λ (r : Step Controller). r .answer) b ∙ enabled-answer m false, subst (λ (r : Step Controller). Clean (r .next)) (sym b) (freed m g (ap (λ (r : Step Controller). r .next .bank .state .control .held) a ∙ reset-holds l)))
 
 -- ── A finish made again ───────────────────────────────────────────────────────────────────────────────────────
-abbrev SameRun : Controller → Controller → Type 0
-SameRun l m = (m .bank .state .phase ≡ l .bank .state .phase) × (m .bank .state .control .sync ≡ l .bank .state .control .sync)
+pub record SameRun (l m : Controller) : Type 0 where
+  pub phase : m .bank .state .phase ≡ l .bank .state .phase
+  pub sync : m .bank .state .control .sync ≡ l .bank .state .control .sync
+  pub held : m .bank .state .control .held ≡ l .bank .state .control .held
 
-clears-sync : (q : Queue) (b : Bool) (c : Control) → clears q b c .sync ≡ c .sync
-clears-sync Cmd b c = refl
-clears-sync Cmdr b c = refl
-clears-sync Sdo b c = refl
-clears-sync Sdi b c = refl
-clears-sync Ibi b c = refl
+abbrev SameCount : Control → Control → Type 0
+SameCount c d = (c .sync ≡ d .sync) × (c .held ≡ d .held)
 
-read-sync : (s : View) (x : Row) → effect (read x s) .control .sync ≡ s .control .sync
-read-sync s absent = refl
-read-sync s (shows f) = refl
-read-sync s (holds c) = refl
-read-sync s (pushes q) = refl
-read-sync s (takes q) = clears-sync q _ (s .control)
-read-sync s enables = refl
-read-sync s acknowledges = refl
+clears-count : (q : Queue) (b : Bool) (c : Control) → SameCount (clears q b c) c
+clears-count Cmd b c = (refl, refl)
+clears-count Cmdr b c = (refl, refl)
+clears-count Sdo b c = (refl, refl)
+clears-count Sdi b c = (refl, refl)
+clears-count Ibi b c = (refl, refl)
+
+read-count : (s : View) (x : Row) → SameCount (effect (read x s) .control) (s .control)
+read-count s absent = (refl, refl)
+read-count s (shows f) = (refl, refl)
+read-count s (holds c) = (refl, refl)
+read-count s (pushes q) = (refl, refl)
+read-count s (takes q) = clears-count q _ (s .control)
+read-count s enables = (refl, refl)
+read-count s acknowledges = (refl, refl)
 
 read-keeps : (l : Controller) (o : ℕ) → SameRun l (step rings l (Read o) .next)
-read-keeps l o = by-outcome (λ r. SameRun l (r .next)) l (Read o) (λ n k. (refl, refl)) (λ f z p. (read-untouched (viewRings l) (row (registerAt o)) .phaseSame, read-sync (viewRings l) (row (registerAt o))))
+read-keeps l o =
+    by-outcome (λ r. SameRun l (r .next)) l (Read o) (λ n k. record { phase = refl; sync = refl; held = refl })
+    (λ f z p. let k = read-count (viewRings l) (row (registerAt o)) in record { phase = read-untouched (viewRings l) (row (registerAt o)) .phaseSame; sync = k .0; held = k .1 })
 
 reads-keep : (os : List ℕ) (l : Controller) → SameRun l (final rings l (reads os))
 unfolding final
-reads-keep [] l = (refl, refl)
+reads-keep [] l = record { phase = refl; sync = refl; held = refl }
 reads-keep (o ∷ os) l =
     let a = read-keeps l o in
     let b = reads-keep os (step rings l (Read o) .next) in
-    (b .0 ∙ a .0, b .1 ∙ a .1)
+    record { phase = b .phase ∙ a .phase; sync = b .sync ∙ a .sync; held = b .held ∙ a .held }
 
-finish-value : (l : Controller) (code : ℕ) → step rings l (Finish code) .answer .number ≡ 0 → step rings l (Finish code) .answer .value ≡ receiptWord code (transfer (l .bank .state .phase) .moved .0) (l .bank .state .control .sync)
-unfolding finish
-finish-value l code n = ap (λ (r : Step Controller). r .answer .value) (served l (Finish code) n .2)
+-- the tests of a finish, and what is known where the last alone holds
+abbrev tests : Bool → Bool → Bool → Bool → Bool → Bool → Bool → Effect → Decision
+tests a b c d e f g x = a ⇒ 21 ∣ b ⇒ 22 ∣ c ⇒ 18 ∣ d ⇒ 5 ∣ e ⇒ 7 ∣ f ⇒ 14 ∣ g ⇒ 13 ∣ does x
+
+last-alone : (a b c d e f g : Bool) (x : Effect) (l m : Controller) → x .number ≡ 0 → outcome (first (tests a b c d e f g x)) x l m .answer .number ≡ 13 → (a ≡ false) × (b ≡ false) × (c ≡ false) × (d ≡ false) × (e ≡ false) × (f ≡ false)
+last-alone true b c d e f g x l m z h = absurd (omega (arith, h))
+last-alone false true c d e f g x l m z h = absurd (omega (arith, h))
+last-alone false false true d e f g x l m z h = absurd (omega (arith, h))
+last-alone false false false true e f g x l m z h = absurd (omega (arith, h))
+last-alone false false false false true f g x l m z h = absurd (omega (arith, h))
+last-alone false false false false false true g x l m z h = absurd (omega (arith, h))
+last-alone false false false false false false true x l m z h = (refl, refl, refl, refl, refl, refl)
+last-alone false false false false false false false x l m z h = absurd (omega (arith, h, z))
+
+by-room : (g : Bool) (x : Effect) (l m : Controller) (v : ℕ) → x .number ≡ 0 → x .value ≡ v → outcome (first (g ⇒ 13 ∣ does x)) x l m .answer ≡ cond g (record { value = 0; number = 13 }) (record { value = v; number = 0 })
+by-room true x l m v z e = refl
+by-room false x l m v z e = λ i. record { value = e i; number = z i }
+
+by-tests : (a b c d e f g : Bool) (x : Effect) (l m : Controller) (v : ℕ) → x .number ≡ 0 → x .value ≡ v → a ≡ false → b ≡ false → c ≡ false → d ≡ false → e ≡ false → f ≡ false → outcome (first (tests a b c d e f g x)) x l m .answer ≡ cond g (record { value = 0; number = 13 }) (record { value = v; number = 0 })
+by-tests a b c d e f g x l m v z w ha hb hc hd he hf = rw (ha, hb, hc, hd, he, hf) (by-room g x l m v z w)
+
+again : (l m : Controller) (code : ℕ) → SameRun l m → wellFormed (m .bank) ≡ true → RightLength m → (let s = l .bank .state in (ltb 15 code ≡ false) × (s .control .held ≡ false) × (idle (s .phase) ≡ false) × (not (allowed (s .phase) code) ≡ false))
+    → step rings m (Finish code) .answer ≡ cond (noRoom (viewRings m)) (record { value = 0; number = 13 }) (record { value = receiptWord code (transfer (l .bank .state .phase) .moved .0) (l .bank .state .control .sync); number = 0 })
+unfolding step guardRings finish
+again l m code k f z h =
+    let s = m .bank .state in
+    let word = ap (λ (p : Phase). receiptWord code (transfer p .moved .0) (s .control .sync)) (k .phase) ∙ ap (receiptWord code (transfer (l .bank .state .phase) .moved .0)) (k .sync) in
+    let x = effect (finish (viewRings m) code) in
+    by-tests (not (wellFormed (m .bank))) (not (eqb (length (m .store)) (total (s .queues)))) (ltb 15 code) (s .control .held) (idle (s .phase)) (not (allowed (s .phase) code)) (noRoom (viewRings m)) x m (settleRings m x) _ refl word
+    (ap not f) (ap not (eq-eqb (length (m .store)) (total (s .queues)) z)) (h .0) (k .held ∙ h .1) (ap idle (k .phase) ∙ h .2) (ap (λ (p : Phase). not (allowed p code)) (k .phase) ∙ h .3)
+
+finish-tests : (l : Controller) (code : ℕ) → step rings l (Finish code) .answer .number ≡ 13 → (wellFormed (l .bank) ≡ true) × RightLength l × (let s = l .bank .state in (ltb 15 code ≡ false) × (s .control .held ≡ false) × (idle (s .phase) ≡ false) × (not (allowed (s .phase) code) ≡ false))
+unfolding step guardRings finish
+finish-tests l code n =
+    let s = l .bank .state in
+    let x = effect (finish (viewRings l) code) in
+    let e = eqb (length (l .store)) (total (s .queues)) in
+    let h = last-alone (not (wellFormed (l .bank))) (not e) (ltb 15 code) (s .control .held) (idle (s .phase)) (not (allowed (s .phase) code)) (noRoom (viewRings l)) x l (settleRings l x) refl n in
+    (not-false (wellFormed (l .bank)) (h .0), eqb-true (length (l .store)) (total (s .queues)) (not-false e (h .1)), (h .2, h .3, h .4, h .5))
 
 pub refused-finish-again : RefusedFinishAgain
 unfolding RefusedFinishAgain RefusalChangesNothing
-refused-finish-again l code os n z =
-    let same = refusal-changes-nothing l (Finish code) (λ e. absurd (omega arith)) (λ e. absurd (omega arith)) .0 in
-    let k : SameRun l (final rings (step rings l (Finish code) .next) (reads os)) = subst (λ (m : Controller). SameRun l (final rings m (reads os))) (sym same) (reads-keep os l) in
-    finish-value (final rings (step rings l (Finish code) .next) (reads os)) code z
-    ∙ ap (λ (p : Phase). receiptWord code (transfer p .moved .0) (final rings (step rings l (Finish code) .next) (reads os) .bank .state .control .sync)) (k .0)
-    ∙ ap (receiptWord code (transfer (l .bank .state .phase) .moved .0)) (k .1)
+refused-finish-again l code os n =
+    let same = refusal-changes-nothing l (Finish code) (λ e. absurd (omega (arith, n, e))) (λ e. absurd (omega (arith, n, e))) .0 in
+    let h = finish-tests l code n in
+    let s = same-final (reads os) l (listed l) (record { is = refl; formed = formed-of (l .bank) (h .0); size = h .1 }) in
+    subst
+    (λ (p : Controller). (let m = final rings p (reads os) in step rings m (Finish code) .answer ≡ cond (noRoom (viewRings m)) (record { value = 0; number = 13 }) (record { value = receiptWord code (transfer (l .bank .state .phase) .moved .0) (l .bank .state .control .sync); number = 0 })))
+    (sym same)
+    (again l (final rings l (reads os)) code (reads-keep os l) (formed-is (final rings l (reads os) .bank) (s .formed)) (s .size) (h .2))

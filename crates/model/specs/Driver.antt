@@ -1,9 +1,9 @@
 -- Laws that a driver author asks for, as statements about `step`. proofs/Driver.antt has a proof of each.
 use Prim.Native.Nat.{ℕ, _+_, _*_, _%_, _^_, _<_}
 use mathlib.Core.Path.{_≡_}
-use mathlib.Core.Bool.{Bool, true, false, cond, _&&_}
+use mathlib.Core.Bool.{Bool, true, false, cond, _&&_, _||_}
 use mathlib.Core.List.{List, [], _∷_}
-use lib.ListN.{length, getD}
+use lib.ListN.{length, getD, drop}
 use Rattle.bank.specs.declared.Control.{Control}
 use Rattle.bank.specs.declared.Sizes.{Sizes}
 use Rattle.bank.specs.Phases.{idle, transfer}
@@ -12,8 +12,9 @@ use Rattle.bank.specs.Formed.{wellFormed}
 use Rattle.registers.specs.Map.{registerAt}
 use Rattle.model.specs.declared.Call.{Call}
 use Rattle.model.specs.declared.Call.the-variants.{Read, Write, Finish}
-use Rattle.model.specs.View.{bit, bits, weigh, Queue, Cmdr, Sdo, Ibi, of, last}
+use Rattle.model.specs.View.{bit, bits, weigh, View, Queue, Cmdr, Sdo, Ibi, of, full, last}
 use Rattle.model.specs.Commands.{receiptWord}
+use Rattle.model.specs.Calls.{padded}
 use Rattle.model.specs.Registers.{Cell, scratch, mask, ops, ibiConfig, devChar, offloadCmd, offloadSdo, Row, absent, shows, holds, pushes, takes, enables, acknowledges, row}
 use Rattle.model.specs.Engine.{step, final}
 use Rattle.model.specs.Rings.{Controller, areas, wordsIn, viewRings, rings}
@@ -74,7 +75,8 @@ takesWord acknowledges = false
 unfoldable pub ReadChangesNothing : Type 0
 ReadChangesNothing = (l : Controller) (o : ℕ) → takesWord (row (registerAt o)) ≡ false → step rings l (Read o) .next ≡ l
 
--- of those three: that queue (the law OthersStay has the other queues) and, of CMDR and IBI, its pending bit where it is then empty
+-- of those three: its first word, which is the value, leaves that queue (the law OthersStay has the other queues), and of CMDR and IBI
+-- the pending bit goes where the queue is then empty
 pub record ControlAfter (q : Queue) (emptied : Bool) (c d : Control) : Type 0 where
   pub held : d .held ≡ c .held
   pub sync : d .sync ≡ c .sync
@@ -83,7 +85,12 @@ pub record ControlAfter (q : Queue) (emptied : Bool) (c d : Control) : Type 0 wh
   pub ibipending : d .ibipending ≡ cond (same Ibi q && emptied) false (c .ibipending)
   pub daapending : d .daapending ≡ c .daapending
 
-pub record ReadTook (l m : Controller) (q : Queue) : Type 0 where
+abbrev pub wordsOf : Queue → Controller → List ℕ
+wordsOf q l = wordsIn (of q (areas (l .bank .state .queues))) (l .store)
+
+pub record ReadTook (l m : Controller) (value : ℕ) (q : Queue) : Type 0 where
+  pub first : value ≡ getD (wordsOf q l) 0 0
+  pub words : wordsOf q m ≡ drop 1 (wordsOf q l)
   pub store : m .store ≡ l .store
   pub regs : m .bank .state .regs ≡ l .bank .state .regs
   pub phase : m .bank .state .phase ≡ l .bank .state .phase
@@ -92,18 +99,25 @@ pub record ReadTook (l m : Controller) (q : Queue) : Type 0 where
   pub payloads : m .bank .payloads ≡ l .bank .payloads
   pub control : ControlAfter q (last (of q (viewRings l .queues))) (l .bank .state .control) (m .bank .state .control)
 
+-- no read takes from SDO
 unfoldable pub ReadTakesOne : Type 0
-ReadTakesOne = (l : Controller) (o : ℕ) (q : Queue) → row (registerAt o) ≡ takes q → same Sdo q ≡ false → step rings l (Read o) .answer .number ≡ 0 → ReadTook l (step rings l (Read o) .next) q
+ReadTakesOne =
+    (l : Controller) (o : ℕ) (q : Queue) → row (registerAt o) ≡ takes q → same Sdo q ≡ false → step rings l (Read o) .answer .number ≡ 0 → ReadTook l (step rings l (Read o) .next) (step rings l (Read o) .answer .value) q
 
 -- ── Reset and release ─────────────────────────────────────────────────────────────────────────────────────────
 -- after a release: no transfer, syncs and pending bits 0, all queues empty, whatever was before
 pub record Clean (l : Controller) : Type 0 where
   pub control : l .bank .state .control ≡ cleared false
   pub phase : idle (l .bank .state .phase) ≡ true
-  pub words : (k : Queue) → wordsIn (of k (areas (l .bank .state .queues))) (l .store) ≡ []
+  pub words : (k : Queue) → wordsOf k l ≡ []
 
+-- both writes to ENABLE are taken, in every state
 unfoldable pub ReleasedClean : Type 0
-ReleasedClean = (l : Controller) (v : ℕ) → l .bank .state .control .held ≡ true → bit 0 v ≡ false → step rings l (Write 0x040 v) .answer .number ≡ 0 → Clean (step rings l (Write 0x040 v) .next)
+ReleasedClean =
+    (l : Controller) → wellFormed (l .bank) ≡ true → length (l .store) ≡ total (l .bank .state .queues)
+    → let held = step rings l (Write 0x040 1) in
+    let free = step rings (held .next) (Write 0x040 0) in
+    (held .answer ≡ record { value = 0; number = 0 }) × (free .answer ≡ record { value = 0; number = 0 }) × Clean (free .next)
 
 -- the mask, the other registers, the device table and the offload memories outlive a reset
 pub record Outlives (l m : Controller) : Type 0 where
@@ -115,14 +129,16 @@ pub record Outlives (l m : Controller) : Type 0 where
 unfoldable pub ResetKeeps : Type 0
 ResetKeeps = (l : Controller) (v : ℕ) → Outlives l (step rings l (Write 0x040 v) .next)
 
--- ── A finish that is refused, then made again after reads: the receipt is that of the first ───────────────────
+-- ── A finish refused for room, then made again after reads: refused for room alone, else with the receipt of the first ──
 abbrev pub reads : List ℕ → List Call
 reads [] = []
 reads (o ∷ os) = Read o ∷ reads os
+
+abbrev pub noRoom : View → Bool
+noRoom s = full (s .queues .cmdr) || (padded (s .phase) && full (s .queues .sdi))
 
 unfoldable pub RefusedFinishAgain : Type 0
 RefusedFinishAgain =
     (l : Controller) (code : ℕ) (os : List ℕ) → step rings l (Finish code) .answer .number ≡ 13
     → let m = final rings (step rings l (Finish code) .next) (reads os) in
-    step rings m (Finish code) .answer .number ≡ 0
-    → step rings m (Finish code) .answer .value ≡ receiptWord code (transfer (l .bank .state .phase) .moved .0) (l .bank .state .control .sync)
+    step rings m (Finish code) .answer ≡ cond (noRoom (viewRings m)) (record { value = 0; number = 13 }) (record { value = receiptWord code (transfer (l .bank .state .phase) .moved .0) (l .bank .state .control .sync); number = 0 })

@@ -1,5 +1,5 @@
--- The table of endings: which codes may end a transfer, by its kind, its direction and the bytes moved. docs/ENDINGS.md is the same table
--- as a page. Statement: the definition of `allowed` is this table.
+-- The table of endings: which codes may end a transfer, by its kind, direction, header bit, length and the bytes moved.
+-- docs/ENDINGS.md is the same table as a page. Statement: the definition of `allowed` is this table.
 use Prim.Native.Nat.{ℕ}
 use mathlib.Core.Path.{_≡_}
 use mathlib.Core.Bool.{Bool, true, false, cond, _&&_, _||_}

@@ -1,11 +1,11 @@
--- Demand 3 is not empty: three lists of calls on the session's bank, each with the tally that it comes to.
+-- Demand 3 is not empty: four lists of calls on the session's bank, each with the tally that it comes to.
 use Prim.Native.Nat.{ℕ, zero, suc}
 use mathlib.Core.Path.{_≡_}
 use mathlib.Core.Bool.{Bool, true, false}
 use mathlib.Core.List.{List, [], _∷_, _++_}
 use mathlib.Core.Option.{none, some}
 use Rattle.model.specs.declared.Call.{Call}
-use Rattle.model.specs.declared.Call.the-variants.{Read, Write, Start, Send, Finish, Request, Take}
+use Rattle.model.specs.declared.Call.the-variants.{Read, Write, Start, Send, Receive, Finish, Request, Take}
 use Rattle.model.specs.Rings.{rings}
 use Rattle.model.specs.Demand.{Written, Run, Tally, tally}
 use Rattle.model.specs.Cases.{session, release}
@@ -51,7 +51,29 @@ retryTally =
       receipts = 0 ∷ [];
     }
 
+-- what stood before a reset does not count; CMD takes four words and drops the fifth; a read of two bytes, a device that does not
+-- acknowledge, and a run still open
+unfoldable pub droppedCalls : List Call
+droppedCalls =
+    release ∷ Write 0x180 0x1102 ∷ Write 0xd4 0x10 ∷ Start ∷ Write 0x040 1 ∷ release ∷ Read 0x0c0 ∷ Write 0xd4 0x511 ∷ Write 0xd4 0x512 ∷ Write 0xd4 0x311 ∷ Write 0xd4 0x411 ∷ Write 0xd4 0x611
+    ∷ Start ∷ Receive 1 ∷ Receive 2 ∷ Finish 0 ∷ Start ∷ Finish 8 ∷ Start ∷ Finish 6 ∷ Start ∷ Receive 3 ∷ Read 0xd8 ∷ Read 0xd8 ∷ []
+
+unfoldable pub droppedTally : Tally
+droppedTally =
+    let dropped : Written = record { word = 0x611; taken = false; roomSeen = false; promised = false } in
+    record {
+      words = record { written = took 0x511 true true ∷ took 0x512 false true ∷ took 0x311 false true ∷ took 0x411 false true ∷ dropped ∷ []; roomSeen = false; credit = 0 };
+      past =
+          record { value = 0x511; sends = 0; receives = 2; addresses = 0; ending = some (record { code = 0; receipt = 0x200 }) }
+          ∷ record { value = 0x512; sends = 0; receives = 0; addresses = 0; ending = some (record { code = 8; receipt = 0x800001 }) }
+          ∷ record { value = 0x311; sends = 0; receives = 0; addresses = 0; ending = some (record { code = 6; receipt = 0x600002 }) }
+          ∷ [];
+      now = some (record { value = 0x411; sends = 0; receives = 1; addresses = 0; ending = none });
+      receipts = 0x200 ∷ 0x800001 ∷ [];
+    }
+
 pub record Counted : Type 0 where
   pub worked : tally rings none session sessionCalls ≡ some sessionTally
   pub assignment : tally rings none session assignmentCalls ≡ some assignmentTally
   pub retry : tally rings none session retryCalls ≡ some retryTally
+  pub dropped : tally rings none session droppedCalls ≡ some droppedTally

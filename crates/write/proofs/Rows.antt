@@ -7,7 +7,7 @@ use mathlib.Core.Bool.{Bool, true, false}
 use mathlib.Core.List.{List, [], _∷_}
 use lib.Dec.{eqb, leb}
 use lib.ListN.{length, set}
-use borrow.Author.Tests.{leb-false}
+use borrow.Author.Tests.{leb-false, eqb-true, eqb-false}
 use Rattle.bank.specs.declared.State.{State}
 use Rattle.registers.specs.declared.Register.{Register}
 use Rattle.registers.specs.declared.Register.the-variants.{Enable}
@@ -32,6 +32,14 @@ module _ (st : State) (t : Tables) (s : List ℕ) (r : Register) (v : ℕ) where
   pub served-row : refusals (write (row r) (view st t s) v) ≡ true → number (write (row r) (view st t s) v) ≡ 0 → served st t s (effect (write (row r) (view st t s) v)) ≡ writeAt st t s r v
   unfolding writeAt
   served-row k e = served-by st t s (write (row r) (view st t s) v) k e
+
+  -- a push that is made where its number is 0: y n made is what code gives
+  pub pushed-row : (y : ℕ → Bool → Step Controller) (n : ℕ) → refusals (write (row r) (view st t s) v) ≡ true → n ≡ number (write (row r) (view st t s) v) → y 0 true ≡ served st t s (effect (write (row r) (view st t s) v)) → ((m : ℕ) → y m false ≡ given (refusedNext st m) t s) → y n (eqb n 0) ≡ writeAt st t s r v
+  pushed-row y n k e made dropped = go (eqb n 0) refl
+    where
+      go : (b : Bool) → eqb n 0 ≡ b → y n b ≡ writeAt st t s r v
+      go true h = let z = eqb-true n 0 h in ap (λ (m : ℕ). y m true) z ∙ made ∙ served-row k (sym e ∙ z)
+      go false h = dropped n ∙ refused-row n refl (eqb-false n 0 h) e
 
 -- a write to the register x, which is the one that stands at an offset
 pub stands : (st : State) (t : Tables) (s : List ℕ) (v : ℕ) {r o x : Register} {y : Step Controller} → r ≡ o → r ≡ x → y ≡ writeAt st t s x v → y ≡ writeAt st t s o v

@@ -128,20 +128,18 @@ fn push_number(held: bool, cap: u32, level: u32) -> u32
     bank::select(held, 5, bank::select(cap <= level, 1, 0))
 }
 
+// A push: made where its number is 0, else nothing changes.
 fn write_cmd(st: State, store: &mut [u32], v: u32) -> Next
     requires { ⌜ Ready (st .queues) (now store) ⌝ }
     ensures { λ y. ⌜ ((t : Tables) → given y t (now (store .exit)) ≡ writeAt st t (now (store .entry)) CmdFifo v) ⌝ }
 {
     let n = push_number(st.control.held, st.queues.cmd.cap.0, st.queues.cmd.level.0);
-    if n != 0 {
-        return answer::refuse(st, n);
-    }
     let mut q = st.queues;
-    q.cmd = answer::push_if(st.queues.cmd, 0, store, true, v);
+    q.cmd = answer::push_if(st.queues.cmd, 0, store, n == 0, v);
     let g = st.regs;
     let c = st.control;
     let p = st.phase;
-    answer::done(q, g, c, p, 0, 0)
+    answer::done(q, g, c, p, 0, n)
 }
 
 // A push to SDO clears the pending bit of address requests.
@@ -150,17 +148,14 @@ fn write_sdo(st: State, store: &mut [u32], v: u32) -> Next
     ensures { λ y. ⌜ ((t : Tables) → given y t (now (store .exit)) ≡ writeAt st t (now (store .entry)) SdoFifo v) ⌝ }
 {
     let n = push_number(st.control.held, st.queues.sdo.cap.0, st.queues.sdo.level.0);
-    if n != 0 {
-        return answer::refuse(st, n);
-    }
     let base = answer::sdo_at(st.queues);
     let mut q = st.queues;
-    q.sdo = answer::push_if(st.queues.sdo, base, store, true, v);
+    q.sdo = answer::push_if(st.queues.sdo, base, store, n == 0, v);
     let g = st.regs;
     let mut c = st.control;
-    c.daapending = false;
+    c.daapending = !(n == 0) & st.control.daapending;
     let p = st.phase;
-    answer::done(q, g, c, p, 0, 0)
+    answer::done(q, g, c, p, 0, n)
 }
 
 // The flags of the device that a DEV_CHAR write selects are stored with bit 8 only.

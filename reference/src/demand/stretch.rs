@@ -178,7 +178,9 @@ impl Stretch {
                     "expected command {}, {:08x}, saw {value:08x} started",
                     self.started, command.first
                 ),
-                None => format!("expected no whole command waiting, saw {value:08x} started"),
+                None => {
+                    format!("expected a refusal, no whole command waits, saw {value:08x} started")
+                }
             });
         }
         if !is_next {
@@ -213,7 +215,7 @@ impl Stretch {
                     command.first,
                     command.kind().name()
                 ),
-                None => "expected no whole command waiting, saw start answered 15".to_string(),
+                None => "expected 09, no whole command waits, saw start answered 15".to_string(),
             });
         }
     }
@@ -227,7 +229,7 @@ impl Stretch {
         match &mut self.open {
             None => {
                 findings.judge(Clause::EventsOfItsKind, false, || {
-                    format!("expected {} open, saw 00 with none open", kind.name())
+                    format!("expected a refusal, {} is not open, saw 00", kind.name())
                 });
             }
             Some(open) => {
@@ -284,7 +286,7 @@ impl Stretch {
         let open = self.open.take();
         findings.judge(Clause::OneReceiptEach, open.is_some(), || {
             format!(
-                "expected no command open to finish, saw receipt {:08x}",
+                "expected a refusal, no command is open, saw receipt {:08x}",
                 receipt.0
             )
         });
@@ -356,7 +358,7 @@ impl Stretch {
                     "expected receipt {}, {:08x}, saw {:08x}",
                     self.receipts_read, expected.0, receipt.0
                 ),
-                None => format!("expected no receipt queued, saw {:08x}", receipt.0),
+                None => format!("expected 03, no receipt is queued, saw {:08x}", receipt.0),
             },
         );
         if !kept {

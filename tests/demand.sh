@@ -4,7 +4,7 @@
 #   demand.sh REFERENCE LINES
 #
 # REFERENCE is the path of the built reference program, LINES the number of calls
-# in each script, enough for a receipt read (500 are). The program's own answers
+# in each script, enough for a receipt read (1,000 are). The program's own answers
 # must be kept; with one receipt read damaged they must be broken at its line;
 # with the last one missing they must be unusable. Exit status 0 only if so.
 set -eu

@@ -554,6 +554,32 @@ fn a_write_refused_with_5_although_the_room_was_read() {
     assert_broken(&session, &[(Clause::TakenAfterRoom, end + 1)]);
 }
 
+#[test]
+fn a_write_refused_with_1_although_the_room_was_1() {
+    let mut session = long_session();
+    let fifth = session.find(session.mark("last part"), "W 00d4", " 01");
+    session.set(fifth - 1, 0, 1);
+    session.insert(fifth - 1, ROOM, 1, 0);
+    assert_broken(&session, &[(Clause::TakenAfterRoom, fifth)]);
+}
+
+/// A later read of 0 does not undo the earlier one: no word was written between.
+#[test]
+fn a_room_that_shrinks_with_no_word_written() {
+    let mut session = long_session();
+    let end = session.mark("end of the careless part");
+    session.insert(end, ROOM, 4, 0);
+    session.insert(end + 1, ROOM, 0, 0);
+    session.insert(end + 2, "W 00d4 00000010", 0, 1);
+    assert_broken(
+        &session,
+        &[
+            (Clause::RestWaits, end + 1),
+            (Clause::TakenAfterRoom, end + 2),
+        ],
+    );
+}
+
 /// Each word of the careful part is written so, and now a command is missing.
 #[test]
 fn a_missing_command_where_each_word_is_written_after_a_room_read() {
@@ -585,6 +611,11 @@ fn refusals_that_demand_3_allows() {
     let release = session.find(end + 4, RELEASE, " 00");
     session.insert(release, ROOM, 4, 0);
     session.insert(release + 2, "W 00d4 00000010", 0, 1);
+    // A read of 0.
+    let full = session.find(transfer(&session, "full queues", 2), ROOM, " 00");
+    assert_eq!(session.value(full), 0);
+    session.insert(full + 1, "W 00d4 00000010", 0, 1);
+    let release = release + 1;
     // A read with another number.
     session.insert(release + 3, ROOM, 4, 4);
     session.insert(release + 4, "W 00d4 00000010", 0, 1);

@@ -6,7 +6,10 @@
 mod clause;
 mod command;
 mod receipt;
+mod room;
 mod stretch;
+mod transfer;
+mod waiting;
 
 #[cfg(test)]
 mod tests;
@@ -19,6 +22,9 @@ use std::fs::File;
 use std::io::{self, BufRead, BufReader};
 use std::path::Path;
 use stretch::Count;
+
+/// 01, A session: "Its bank has every capacity 4", CMD and CMDR too.
+const CAPACITY: usize = 4;
 
 /// Why the input can't be judged.
 #[derive(Debug)]

@@ -111,9 +111,9 @@ impl Findings {
         self.line = line;
     }
 
-    /// Judges a clause at the present line and returns whether it is kept there.
-    /// `text` says what was expected and what was seen.
-    pub fn judge(&mut self, clause: Clause, kept: bool, text: impl FnOnce() -> String) -> bool {
+    /// Judges a clause at the present line. `text` says what was expected and what
+    /// was seen.
+    pub fn judge(&mut self, clause: Clause, kept: bool, text: impl FnOnce() -> String) {
         let finding = &mut self.findings[clause as usize];
         finding.cases += 1;
         if !kept && finding.violation.is_none() {
@@ -122,7 +122,6 @@ impl Findings {
                 text: text(),
             });
         }
-        kept
     }
 
     pub fn violation(&self, clause: Clause) -> Option<&Violation> {

@@ -33,11 +33,8 @@ fn a_correct_session_is_kept() {
     assert!(session.count("S", " 15") == 1);
     assert!(session.count("S", " 09") > 40);
     assert!(session.count("T", " 10") > 40);
-    for name in ["read", "write", "CCC", "ENTDAA"] {
-        let reset = session.mark(&format!(
-            "reset in {}{name}",
-            if name == "ENTDAA" { "" } else { "a " }
-        ));
+    for name in ["a read", "a write", "a CCC", "ENTDAA"] {
+        let reset = session.mark(&format!("reset in {name}"));
         assert_eq!(session.rows[reset + 1].line, RESET);
     }
 }
@@ -352,26 +349,17 @@ fn a_sync_raised_by_a_refused_finish() {
     let refused = session.find(session.mark("no room for the receipt"), "F", " 13");
     let end = session.mark("end of the careless part");
     let first = session.find(refused, "F", " 00");
-    let mut made = 0;
-    // The receipts queued before the refused finish are read after it.
-    let mut read = 0;
-    for row in refused..end {
-        let is_done = session.rows[row]
-            .answer
-            .as_ref()
-            .is_some_and(|a| a.ends_with(" 00"));
-        let line = session.rows[row].line.clone();
-        if is_done && line.starts_with('F') {
-            made += 1;
-        } else if is_done && line == RECEIPT && read < 4 {
-            read += 1;
-            continue;
-        } else if !(is_done && line == RECEIPT) {
-            continue;
-        }
+    let done: Vec<usize> = (refused..end)
+        .filter(|row| session.is(*row, "", " 00"))
+        .collect();
+    let finishes = done.iter().filter(|row| session.is(**row, "F", ""));
+    // Four receipts were queued before the refused finish.
+    let reads = done.iter().filter(|row| session.is(**row, RECEIPT, ""));
+    let raised: Vec<usize> = finishes.chain(reads.skip(4)).copied().collect();
+    assert!(raised.len() > 180);
+    for row in raised {
         session.set(row, session.value(row) + 1, 0);
     }
-    assert!(made > 90);
     assert_broken(&session, &[(Clause::ReceiptSync, first)]);
 }
 

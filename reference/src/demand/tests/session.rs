@@ -55,13 +55,16 @@ impl Session {
         answers.map(|answer| answer + "\n").collect()
     }
 
-    /// The first row from `from` on with this beginning of its line and this end of
-    /// its answer.
+    /// Whether a row has this beginning of its line and this end of its answer.
+    pub fn is(&self, row: usize, line: &str, number: &str) -> bool {
+        let Row { line: text, answer } = &self.rows[row];
+        text.starts_with(line) && answer.as_ref().is_some_and(|a| a.ends_with(number))
+    }
+
+    /// The first such row from `from` on.
     pub fn find(&self, from: usize, line: &str, number: &str) -> usize {
-        let found = self.rows[from..].iter().position(|row| {
-            row.line.starts_with(line) && row.answer.as_ref().is_some_and(|a| a.ends_with(number))
-        });
-        from + found.unwrap()
+        let mut rows = from..self.rows.len();
+        rows.find(|row| self.is(*row, line, number)).unwrap()
     }
 
     /// The row of this comment line.
@@ -71,11 +74,8 @@ impl Session {
     }
 
     pub fn count(&self, line: &str, number: &str) -> usize {
-        let rows = self.rows.iter();
-        rows.filter(|row| {
-            row.line.starts_with(line) && row.answer.as_ref().is_some_and(|a| a.ends_with(number))
-        })
-        .count()
+        let rows = 0..self.rows.len();
+        rows.filter(|row| self.is(*row, line, number)).count()
     }
 
     pub fn value(&self, row: usize) -> u32 {

@@ -1,17 +1,20 @@
 //! Second program for the host interface of an I3C controller.
 //!
 //! `reference` runs a session from standard input, `reference test` also takes
-//! set-up lines, `reference check` runs the cases marked P.
+//! set-up lines, `reference check` runs the cases marked P, `reference demand`
+//! judges any program's answers to a session script by demand 3.
 
 #![forbid(unsafe_code)]
 
 mod cases;
+mod demand;
 mod engine;
 mod lines;
 
 use lines::{run_session, Mode};
 use std::env;
 use std::io::{self, BufWriter};
+use std::path::Path;
 use std::process::ExitCode;
 
 fn run_input(mode: Mode) -> ExitCode {
@@ -37,14 +40,44 @@ fn run_check() -> ExitCode {
     }
 }
 
+/// Exit status 0 if all is kept, 1 if a clause is broken, 2 if the input can't be
+/// judged or the report can't be written.
+fn run_demand(script: &Path, answers: &Path) -> ExitCode {
+    let findings = match demand::judge_files(script, answers) {
+        Ok(findings) => findings,
+        Err(unusable) => {
+            eprintln!("{unusable}");
+            return ExitCode::from(2);
+        }
+    };
+    let mut output = BufWriter::new(io::stdout().lock());
+    match findings.print(&mut output) {
+        Ok(()) if findings.all_kept() => ExitCode::SUCCESS,
+        Ok(()) => ExitCode::FAILURE,
+        Err(error) => {
+            eprintln!("can't write the report: {error}");
+            ExitCode::from(2)
+        }
+    }
+}
+
+const USAGE: &str = "\
+usage: reference                        answers the session on standard input
+       reference test                   the same, set-up lines too
+       reference check                  runs the cases marked P
+       reference demand SCRIPT ANSWERS  judges answers to a session by demand 3";
+
 fn main() -> ExitCode {
     let arguments: Vec<_> = env::args_os().skip(1).collect();
     match arguments.as_slice() {
         [] => run_input(Mode::Session),
         [word] if word == "test" => run_input(Mode::Test),
         [word] if word == "check" => run_check(),
+        [word, script, answers] if word == "demand" => {
+            run_demand(Path::new(script), Path::new(answers))
+        }
         _ => {
-            eprintln!("usage: reference [test | check]");
+            eprintln!("{USAGE}");
             ExitCode::from(2)
         }
     }

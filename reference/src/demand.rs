@@ -1,0 +1,161 @@
+//! Checker of demand 3: judges any program's answers to a session script.
+//!
+//! It reads the script and the answers and nothing else. Of the engine it uses the
+//! types of a call and an answer, which the line parser gives; it runs no model.
+
+mod clause;
+mod command;
+mod receipt;
+mod room;
+mod stretch;
+mod transfer;
+mod waiting;
+
+#[cfg(test)]
+mod tests;
+
+use crate::engine::Answer;
+use crate::lines::{parse_line, Mode, Request};
+use clause::Findings;
+use std::fmt;
+use std::fs::File;
+use std::io::{self, BufRead, BufReader};
+use std::path::Path;
+use stretch::Count;
+
+/// 01, A session: "Its bank has every capacity 4", CMD and CMDR too.
+const CAPACITY: usize = 4;
+
+/// Why the input can't be judged.
+#[derive(Debug)]
+pub enum Unusable {
+    Unreadable {
+        what: &'static str,
+        error: io::Error,
+    },
+    MalformedAnswer {
+        line: u64,
+    },
+    WrongCount {
+        calls: u64,
+        answers: u64,
+    },
+}
+
+impl fmt::Display for Unusable {
+    fn fmt(&self, f: &mut fmt::Formatter<'_>) -> fmt::Result {
+        match self {
+            Unusable::Unreadable { what, error } => write!(f, "can't read the {what}: {error}"),
+            Unusable::MalformedAnswer { line } => write!(
+                f,
+                "answers, line {line}: not eight lower-case hex digits, a space and two \
+                 decimal digits"
+            ),
+            Unusable::WrongCount { calls, answers } => {
+                write!(
+                    f,
+                    "the script has {calls} calls, the answers {answers} lines"
+                )
+            }
+        }
+    }
+}
+
+/// Lines of a file. 01: "a line ends at a newline or the end of the input".
+struct Lines<R> {
+    input: R,
+    what: &'static str,
+    line: Vec<u8>,
+    /// The number of the present line, counted from 1.
+    number: u64,
+}
+
+impl<R: BufRead> Lines<R> {
+    fn new(input: R, what: &'static str) -> Lines<R> {
+        Lines {
+            input,
+            what,
+            line: Vec::new(),
+            number: 0,
+        }
+    }
+
+    /// Reads the next line, without its newline; false at the end.
+    fn advance(&mut self) -> Result<bool, Unusable> {
+        self.line.clear();
+        let count = self
+            .input
+            .read_until(b'\n', &mut self.line)
+            .map_err(|error| Unusable::Unreadable {
+                what: self.what,
+                error,
+            })?;
+        if self.line.last() == Some(&b'\n') {
+            self.line.pop();
+        }
+        if count > 0 {
+            self.number += 1;
+        }
+        Ok(count > 0)
+    }
+}
+
+/// 01: "the value in eight lower-case hex digits, a space and the number in two
+/// decimal digits".
+fn parse_answer(line: &[u8]) -> Option<Answer> {
+    let line = std::str::from_utf8(line).ok()?;
+    let (value, number) = line.split_once(' ')?;
+    let is_value = value.len() == 8
+        && value
+            .bytes()
+            .all(|b| matches!(b, b'0'..=b'9' | b'a'..=b'f'));
+    let is_number = number.len() == 2 && number.bytes().all(|b| b.is_ascii_digit());
+    if !is_value || !is_number {
+        return None;
+    }
+    Some(Answer {
+        value: u32::from_str_radix(value, 16).ok()?,
+        number: number.parse().ok()?,
+    })
+}
+
+/// Judges the answers to a script.
+pub fn judge(script: impl BufRead, answers: impl BufRead) -> Result<Findings, Unusable> {
+    let mut script = Lines::new(script, "script");
+    let mut answers = Lines::new(answers, "answers");
+    let mut count = Count::default();
+    let mut calls = 0;
+    while script.advance()? {
+        // 01: "other lines are skipped": they have no answer.
+        let Some(Request::Call(call)) = parse_line(&script.line, Mode::Session) else {
+            continue;
+        };
+        calls += 1;
+        if answers.advance()? {
+            let answer = parse_answer(&answers.line).ok_or(Unusable::MalformedAnswer {
+                line: answers.number,
+            })?;
+            count.judge_call(script.number, &call, answer);
+        }
+    }
+    while answers.advance()? {}
+    if calls != answers.number {
+        return Err(Unusable::WrongCount {
+            calls,
+            answers: answers.number,
+        });
+    }
+    Ok(count.into_findings())
+}
+
+fn open(path: &Path, what: &'static str) -> Result<BufReader<File>, Unusable> {
+    match File::open(path) {
+        Ok(file) => Ok(BufReader::new(file)),
+        Err(error) => Err(Unusable::Unreadable { what, error }),
+    }
+}
+
+/// Judges the answers in one file to the script in another.
+pub fn judge_files(script: &Path, answers: &Path) -> Result<Findings, Unusable> {
+    judge(open(script, "script")?, open(answers, "answers")?)
+}

@@ -1,0 +1,185 @@
+//! Receipts: their fields, and which were made, read and still queued.
+
+use super::clause::{Clause, Findings};
+use super::transfer::Transfer;
+use super::CAPACITY;
+use std::collections::VecDeque;
+
+/// 01: "Receipt: 23:20 error, 19:8 length, 7:0 sync". Bits 31:24 are not part of
+/// demand 3.
+#[derive(Clone, Copy, Debug, PartialEq, Eq)]
+pub struct Receipt(pub u32);
+
+impl Receipt {
+    fn error(self) -> u32 {
+        self.0 >> 20 & 0xf
+    }
+
+    fn length(self) -> u32 {
+        self.0 >> 8 & 0xfff
+    }
+
+    fn sync(self) -> u32 {
+        self.0 & 0xff
+    }
+}
+
+/// The receipts since the release.
+#[derive(Debug)]
+pub struct Receipts {
+    made: u64,
+    read: u64,
+    /// Made and not read. Unknown after a read that was not the next receipt.
+    queued: Option<VecDeque<Receipt>>,
+}
+
+impl Receipts {
+    pub fn new() -> Receipts {
+        Receipts {
+            made: 0,
+            read: 0,
+            queued: Some(VecDeque::new()),
+        }
+    }
+
+    /// A finish answered 0. 01: "Its receipt is the value of the finish that finished
+    /// it, with that finish's code as error."
+    pub fn finish(
+        &mut self,
+        code: u8,
+        receipt: Receipt,
+        transfer: Option<Transfer>,
+        findings: &mut Findings,
+    ) {
+        findings.judge(Clause::OneReceiptEach, transfer.is_some(), || {
+            let word = receipt.0;
+            format!("expected a refusal, no command is open, saw receipt {word:08x}")
+        });
+        if let Some(transfer) = transfer {
+            self.judge_sync(receipt, findings);
+            judge_length(receipt, &transfer, findings);
+            judge_error(receipt, code, findings);
+        }
+        self.made += 1;
+        self.queue(receipt, findings);
+    }
+
+    /// 00: "its sync the number of earlier receipts modulo 256".
+    fn judge_sync(&self, receipt: Receipt, findings: &mut Findings) {
+        let expected = self.made % 256;
+        let sync = receipt.sync();
+        findings.judge(Clause::ReceiptSync, u64::from(sync) == expected, || {
+            format!("expected sync {expected:02x}, saw {sync:02x}")
+        });
+    }
+
+    /// More than CMDR's capacity can't be queued.
+    fn queue(&mut self, receipt: Receipt, findings: &mut Findings) {
+        let Some(queued) = &mut self.queued else {
+            return;
+        };
+        queued.push_back(receipt);
+        let level = queued.len();
+        findings.judge(Clause::ReceiptsQueued, level <= CAPACITY, || {
+            format!("expected at most {CAPACITY} receipts queued, saw receipt {level} queued")
+        });
+    }
+
+    /// A CMDR read answered 0. 01: "The values of the CMDR reads answered 0, then
+    /// CMDR's entries from its head, are these receipts in order."
+    pub fn read(&mut self, receipt: Receipt, findings: &mut Findings) {
+        self.read += 1;
+        let number = self.read;
+        let Some(queued) = &mut self.queued else {
+            return;
+        };
+        let expected = queued.pop_front();
+        let seen = receipt.0;
+        let kept = expected == Some(receipt);
+        findings.judge(Clause::ReceiptsRead, kept, || match expected {
+            Some(Receipt(word)) => {
+                format!("expected receipt {number}, {word:08x}, saw {seen:08x}")
+            }
+            None => format!("expected 03, no receipt is queued, saw {seen:08x}"),
+        });
+        if !kept {
+            self.queued = None;
+        }
+    }
+
+    /// 01, number 3: "read of an empty CMDR ... queue". After it CMDR is taken to be
+    /// empty, so that one lost receipt is reported once.
+    pub fn read_refused_with_3(&mut self, findings: &mut Findings) {
+        self.said_empty(true, "03", findings);
+        if let Some(queued) = &mut self.queued {
+            queued.clear();
+        }
+    }
+
+    /// 01, Register map: FIFO_STATUS "bit 0 CMDR empty".
+    pub fn status(&self, value: u32, findings: &mut Findings) {
+        if value & 1 == 1 {
+            self.said_empty(true, "bit 0 set", findings);
+        } else {
+            self.said_empty(false, "bit 0 clear", findings);
+        }
+    }
+
+    fn said_empty(&self, empty: bool, seen: &str, findings: &mut Findings) {
+        let Some(queued) = &self.queued else {
+            return;
+        };
+        findings.judge(Clause::ReceiptsQueued, queued.is_empty() == empty, || {
+            format!("expected {} receipts queued, saw {seen}", queued.len())
+        });
+    }
+
+    /// 01, Register map: "0x0c4 CMDR level", "in words"; a receipt is one word.
+    pub fn level(&self, level: u32, findings: &mut Findings) {
+        let Some(queued) = &self.queued else {
+            return;
+        };
+        let expected = queued.len();
+        let kept = expected as u64 == u64::from(level);
+        findings.judge(Clause::ReceiptsQueued, kept, || {
+            format!("expected {expected} receipts queued, saw level {level}")
+        });
+    }
+}
+
+/// 00: "its length the payload bytes moved for it, never above the commanded
+/// length".
+fn judge_length(receipt: Receipt, transfer: &Transfer, findings: &mut Findings) {
+    let length = receipt.length();
+    let moved = transfer.moved;
+    findings.judge(Clause::ReceiptLength, u64::from(length) == moved, || {
+        format!("expected length {moved}, saw {length}")
+    });
+    if let Some(command) = transfer.command {
+        let commanded = command.commanded_length();
+        findings.judge(Clause::CommandedLength, length <= commanded, || {
+            format!("expected length at most {commanded}, saw {length}")
+        });
+    }
+}
+
+/// 01: "with that finish's code as error".
+fn judge_error(receipt: Receipt, code: u8, findings: &mut Findings) {
+    let error = receipt.error();
+    findings.judge(Clause::ReceiptError, error == u32::from(code), || {
+        format!("expected error {code}, saw {error}")
+    });
+}
+
+#[cfg(test)]
+mod tests {
+    use super::*;
+
+    #[test]
+    fn fields_of_a_receipt() {
+        let receipt = Receipt(0xff6a_bc05);
+        assert_eq!(receipt.error(), 6);
+        assert_eq!(receipt.length(), 0xabc);
+        assert_eq!(receipt.sync(), 5);
+    }
+}

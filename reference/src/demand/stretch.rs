@@ -1,0 +1,160 @@
+//! The count of demand 3 over the calls from a release to the next reset.
+//!
+//! Every beginning of a script that ends after a release and before the next
+//! reset is a list of calls of its own, so each call is judged when it comes. What
+//! is expected comes from the calls and answers before it, never from a model.
+
+use super::clause::Findings;
+use super::command::Kind;
+use super::receipt::{Receipt, Receipts};
+use super::room::RoomReads;
+use super::transfer::Transfers;
+use super::waiting::Commands;
+use crate::engine::{Answer, Call};
+
+// 01, Register map.
+const ENABLE: u16 = 0x040;
+const CMD_ROOM: u16 = 0x0c0;
+const CMDR_LEVEL: u16 = 0x0c4;
+const CMD: u16 = 0x0d4;
+const CMDR: u16 = 0x0d8;
+const FIFO_STATUS: u16 = 0x0e8;
+const OPS: u16 = 0x100;
+
+// 01, Numbers, the table.
+const DONE: u8 = 0;
+const EMPTY: u8 = 3;
+const NO_WHOLE_COMMAND: u8 = 9;
+const SDO_NOT_EMPTY: u8 = 15;
+
+/// What is counted since the release.
+#[derive(Debug)]
+struct Stretch {
+    room_reads: RoomReads,
+    commands: Commands,
+    transfers: Transfers,
+    receipts: Receipts,
+}
+
+impl Stretch {
+    fn new() -> Stretch {
+        Stretch {
+            room_reads: RoomReads::new(),
+            commands: Commands::new(),
+            transfers: Transfers::default(),
+            receipts: Receipts::new(),
+        }
+    }
+
+    fn judge_call(&mut self, call: &Call, answer: Answer, findings: &mut Findings) {
+        match *call {
+            Call::Write { offset: CMD, value } => self.command_word(value, answer, findings),
+            Call::Write { .. } => {}
+            Call::Read { offset } => self.read(offset, answer, findings),
+            Call::Start => self.start(answer, findings),
+            // 01: "sends are answered 0 only for a write, receives only for a read,
+            // address requests and takes only for ENTDAA".
+            Call::Send => self.event(Kind::Write, 1, answer, findings),
+            Call::Receive { .. } => self.event(Kind::Read, 1, answer, findings),
+            Call::AddressRequest { .. } | Call::AddressTake => {
+                self.event(Kind::Entdaa, 0, answer, findings);
+            }
+            Call::Finish { code } => self.finish(code, answer, findings),
+            Call::InterruptRequest { .. } => self.transfers.refusal(answer, findings),
+        }
+    }
+
+    fn command_word(&mut self, word: u32, answer: Answer, findings: &mut Findings) {
+        self.room_reads.word_written(word, answer, findings);
+        if answer.number == DONE {
+            self.commands.word_taken(word, findings);
+        }
+    }
+
+    fn read(&mut self, offset: u16, answer: Answer, findings: &mut Findings) {
+        let value = answer.value;
+        match (offset, answer.number) {
+            (CMD_ROOM, DONE) => {
+                self.room_reads.read(value);
+                self.commands.room(value, findings);
+            }
+            (CMDR, DONE) => self.receipts.read(Receipt(value), findings),
+            (CMDR, EMPTY) => self.receipts.read_refused_with_3(findings),
+            (CMDR_LEVEL, DONE) => self.receipts.level(value, findings),
+            (FIFO_STATUS, DONE) => self.receipts.status(value, findings),
+            (OPS, DONE) => self.transfers.ops(value, findings),
+            _ => {}
+        }
+    }
+
+    fn start(&mut self, answer: Answer, findings: &mut Findings) {
+        match answer.number {
+            DONE => {
+                let command = self.commands.start(answer.value, findings);
+                self.transfers.start(command, findings);
+            }
+            NO_WHOLE_COMMAND => self.commands.start_refused_with_9(findings),
+            SDO_NOT_EMPTY => self.commands.start_refused_with_15(findings),
+            _ => self.transfers.refusal(answer, findings),
+        }
+    }
+
+    fn event(&mut self, kind: Kind, bytes: u64, answer: Answer, findings: &mut Findings) {
+        if answer.number == DONE {
+            self.transfers.event(kind, bytes, findings);
+        } else {
+            self.transfers.refusal(answer, findings);
+        }
+    }
+
+    fn finish(&mut self, code: u8, answer: Answer, findings: &mut Findings) {
+        if answer.number == DONE {
+            let transfer = self.transfers.finish();
+            self.receipts
+                .finish(code, Receipt(answer.value), transfer, findings);
+        } else {
+            self.transfers.refusal(answer, findings);
+        }
+    }
+}
+
+/// The count over a whole script, from a fresh bank.
+#[derive(Debug, Default)]
+pub struct Count {
+    /// Absent from set-up or a reset until the release.
+    stretch: Option<Stretch>,
+    findings: Findings,
+}
+
+impl Count {
+    /// `line` is the script's line of the call.
+    pub fn judge_call(&mut self, line: u64, call: &Call, answer: Answer) {
+        self.findings.set_line(line);
+        match *call {
+            Call::Write {
+                offset: ENABLE,
+                value,
+            } if answer.number == DONE => self.enable(value),
+            // 01: "Only calls after the list's last release count."
+            _ => {
+                if let Some(stretch) = &mut self.stretch {
+                    stretch.judge_call(call, answer, &mut self.findings);
+                }
+            }
+        }
+    }
+
+    /// 01: "A reset is a write to ENABLE answered 0 with bit 0 set; a release is the
+    /// first one with bit 0 clear since set-up or a reset."
+    fn enable(&mut self, value: u32) {
+        if value & 1 == 1 {
+            self.stretch = None;
+        } else if self.stretch.is_none() {
+            self.stretch = Some(Stretch::new());
+        }
+    }
+
+    pub fn into_findings(self) -> Findings {
+        self.findings
+    }
+}

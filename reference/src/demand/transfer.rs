@@ -1,0 +1,93 @@
+//! The transfer of the command that started last, while it is open.
+
+use super::clause::{Clause, Findings};
+use super::command::{Command, Kind};
+use crate::engine::Answer;
+
+/// 01, Numbers: "a transfer is open" and "no transfer is open".
+const TRANSFER_OPEN: u8 = 6;
+const NO_TRANSFER: u8 = 7;
+
+#[derive(Debug)]
+pub struct Transfer {
+    /// Unknown after a start that was not the next command's.
+    pub command: Option<Command>,
+    /// 01: "Bytes moved for a command: the sends and receives answered 0 while it
+    /// was open."
+    pub moved: u64,
+}
+
+/// The transfers since the release.
+#[derive(Debug, Default)]
+pub struct Transfers {
+    open: Option<Transfer>,
+    started: u64,
+}
+
+impl Transfers {
+    /// A start answered 0. 00: "All that started have finished, save the last while
+    /// it is open."
+    pub fn start(&mut self, command: Option<Command>, findings: &mut Findings) {
+        let number = self.started;
+        findings.judge(Clause::OneOpen, self.open.is_none(), || {
+            format!("expected command {number} finished first, saw the next one started")
+        });
+        self.started += 1;
+        self.open = Some(Transfer { command, moved: 0 });
+    }
+
+    /// An event answered 0 that only a command of this kind has; `bytes` is what it
+    /// moves.
+    pub fn event(&mut self, kind: Kind, bytes: u64, findings: &mut Findings) {
+        let Some(transfer) = &mut self.open else {
+            findings.judge(Clause::EventsOfItsKind, false, || {
+                format!("expected a refusal, {} is not open, saw 00", kind.name())
+            });
+            return;
+        };
+        transfer.moved += bytes;
+        if let Some(command) = transfer.command {
+            let kept = command.kind() == kind;
+            findings.judge(Clause::EventsOfItsKind, kept, || {
+                let open_kind = command.kind().name();
+                let first = command.first;
+                format!("expected a refusal for {first:08x}, {open_kind}, saw 00")
+            });
+        }
+    }
+
+    /// 01: "It is open until the next finish answered 0, which finishes it."
+    pub fn finish(&mut self) -> Option<Transfer> {
+        self.open.take()
+    }
+
+    /// An event refused; two numbers say whether a transfer is open.
+    pub fn refusal(&self, answer: Answer, findings: &mut Findings) {
+        match answer.number {
+            TRANSFER_OPEN => self.said_open("06", findings),
+            NO_TRANSFER => self.said_not_open("07", findings),
+            _ => {}
+        }
+    }
+
+    /// 01, Register map: OPS "bit 7 read-only, 1 when no transfer is open".
+    pub fn ops(&self, value: u32, findings: &mut Findings) {
+        if value >> 7 & 1 == 1 {
+            self.said_not_open("bit 7 set", findings);
+        } else {
+            self.said_open("bit 7 clear", findings);
+        }
+    }
+
+    fn said_open(&self, seen: &str, findings: &mut Findings) {
+        findings.judge(Clause::OneOpen, self.open.is_some(), || {
+            format!("expected no command open, saw {seen}")
+        });
+    }
+
+    fn said_not_open(&self, seen: &str, findings: &mut Findings) {
+        findings.judge(Clause::OneOpen, self.open.is_none(), || {
+            format!("expected command {} open, saw {seen}", self.started)
+        });
+    }
+}

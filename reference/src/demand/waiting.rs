@@ -1,0 +1,100 @@
+//! Which commands started and which still wait.
+
+use super::clause::{Clause, Findings};
+use super::command::{Command, Kind, WaitingWords};
+use super::CAPACITY;
+
+/// The commands since the release, up to the first start that is not the next
+/// command's: from there the n-th start is no longer the n-th command's, and what
+/// waits is unknown.
+#[derive(Debug)]
+pub struct Commands {
+    waiting: Option<WaitingWords>,
+    started: u64,
+}
+
+impl Commands {
+    pub fn new() -> Commands {
+        Commands {
+            waiting: Some(WaitingWords::default()),
+            started: 0,
+        }
+    }
+
+    /// 01: "The queue took the words of the CMD writes answered 0, in order." More
+    /// than its capacity can't wait in it.
+    pub fn word_taken(&mut self, word: u32, findings: &mut Findings) {
+        let Some(waiting) = &mut self.waiting else {
+            return;
+        };
+        waiting.push(word);
+        let level = waiting.level();
+        findings.judge(Clause::RestWaits, level <= CAPACITY, || {
+            format!("expected at most {CAPACITY} words waiting, saw word {level} taken")
+        });
+    }
+
+    /// 01, Register map: "room is capacity less level".
+    pub fn room(&self, room: u32, findings: &mut Findings) {
+        let Some(waiting) = &self.waiting else {
+            return;
+        };
+        let level = waiting.level();
+        let kept = level as u64 + u64::from(room) == CAPACITY as u64;
+        findings.judge(Clause::RestWaits, kept, || {
+            format!("expected room {CAPACITY} less {level} words waiting, saw room {room}")
+        });
+    }
+
+    /// 01: "The n-th start answered 0 starts the n-th command; its value is that
+    /// command's first word." Gives the command if it is that one.
+    pub fn start(&mut self, value: u32, findings: &mut Findings) -> Option<Command> {
+        self.started += 1;
+        let number = self.started;
+        let command = self.waiting.as_mut()?.start_command();
+        let kept = command.is_some_and(|command| command.first == value);
+        findings.judge(Clause::StartedInOrder, kept, || match command {
+            Some(Command { first, .. }) => {
+                format!("expected command {number}, {first:08x}, saw {value:08x} started")
+            }
+            None => {
+                format!("expected a refusal, no whole command waits, saw {value:08x} started")
+            }
+        });
+        if !kept {
+            self.waiting = None;
+            return None;
+        }
+        command
+    }
+
+    /// 01, number 9: "no whole command waits".
+    pub fn start_refused_with_9(&self, findings: &mut Findings) {
+        let Some(waiting) = &self.waiting else {
+            return;
+        };
+        let command = waiting.first_command();
+        findings.judge(Clause::RestWaits, command.is_none(), || {
+            let first = command.map_or(0, |command| command.first);
+            format!("expected command {first:08x} waiting, saw start answered 09")
+        });
+    }
+
+    /// 01, number 15: "SDO not empty at ENTDAA start": the first command that waits
+    /// is ENTDAA.
+    pub fn start_refused_with_15(&self, findings: &mut Findings) {
+        let Some(waiting) = &self.waiting else {
+            return;
+        };
+        let command = waiting.first_command();
+        let kept = command.is_some_and(|command| command.kind() == Kind::Entdaa);
+        findings.judge(Clause::RestWaits, kept, || match command {
+            Some(command) => {
+                let kind = command.kind().name();
+                let first = command.first;
+                format!("expected command {first:08x}, {kind}, waiting, saw start answered 15")
+            }
+            None => "expected 09, no whole command waits, saw start answered 15".to_string(),
+        });
+    }
+}

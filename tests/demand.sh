@@ -1,0 +1,59 @@
+#!/bin/sh
+# Tries the checker of demand 3 on generated sessions.
+#
+#   demand.sh REFERENCE LINES
+#
+# REFERENCE is the path of the built reference program, LINES the number of calls
+# in each script, enough for a receipt read (1,000 are). The program's own answers
+# must be kept; with one receipt read damaged they must be broken at its line;
+# with the last one missing they must be unusable. Exit status 0 only if so.
+set -eu
+
+SEEDS="1 2 3"
+CLAUSE="receipts read in order"
+
+if [ $# -ne 2 ]; then
+    echo "usage: demand.sh REFERENCE LINES" >&2
+    exit 2
+fi
+reference=$1
+lines=$2
+here=$(cd "$(dirname "$0")" && pwd)
+work=$(mktemp -d)
+trap 'rm -rf "$work"' EXIT
+trap 'exit 1' HUP INT TERM
+
+# fail TEXT
+fail() {
+    echo "seed $seed: $1" >&2
+    cat "$work/report" >&2
+    exit 1
+}
+
+# expect STATUS VERDICT ANSWERS: judges the answers to the script.
+expect() {
+    status=0
+    "$reference" demand "$work/script" "$3" >"$work/report" 2>"$work/error" || status=$?
+    verdict=$(tail -n 1 "$work/report")
+    if [ "$status" -ne "$1" ] || [ "$verdict" != "$2" ]; then
+        fail "expected '$2' with status $1, got '$verdict' with status $status"
+    fi
+}
+
+for seed in $SEEDS; do
+    python3 -B "$here/generate.py" "$seed" "$lines" >"$work/script"
+    "$reference" <"$work/script" >"$work/answers"
+    expect 0 kept "$work/answers"
+
+    line=$(python3 -B "$here/damage.py" "$work/script" "$work/answers" "$work/damaged")
+    expect 1 broken "$work/damaged"
+    grep -q "^broken: $CLAUSE: line $line: " "$work/report" ||
+        fail "the receipt read damaged on line $line is not reported"
+    [ "$(grep -c '^broken: ' "$work/report")" -eq 1 ] ||
+        fail "one fault is reported for more than one clause"
+
+    sed '$d' "$work/answers" >"$work/short"
+    expect 2 "" "$work/short"
+    [ -s "$work/error" ] || fail "a missing answer gives no message"
+done
+echo "demand 3: kept for seeds $SEEDS of $lines calls, broken with a damaged receipt read"

@@ -58,6 +58,7 @@ kept b s c = go (faultNumber b (length s)) refl
   where
     l : Controller
     l = step rings (controller b s) c .next
+
     go : (n : ℕ) → faultNumber b (length s) ≡ n → faultNumber (l .bank) (length (l .store)) ≡ faultNumber b (length s)
     go zero e =
         let t = both (wellFormed b) (eqb (length s) (total (b .state .queues))) e in

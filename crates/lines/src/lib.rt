@@ -158,7 +158,7 @@ pub fn eat(r: Reading, b: u8) -> Reading
 }
 
 // The call of a letter, by the values of its fields.
-fn call(letter: u8, v: u32, w: u32) -> Parsed
+pub fn call(letter: u8, v: u32, w: u32) -> Parsed
     ensures { λ p. ⌜ p ≡ namedBy (formOf letter) v w ⌝ }
 {
     match letter {

@@ -1,1 +1,113 @@
-fn main() {}
+//! The benchmark: verifies that the model and the plain engine leave the same, then times both in
+//! several processes and prints tables. `bench [PROCESSES]`, 5 where none is given.
+
+mod measure;
+mod model;
+mod verify;
+mod work;
+
+use bench::trace::LETTERS;
+use measure::{measure, Times};
+use model::VARIANTS;
+use std::env;
+use std::process::Command;
+use work::Work;
+
+/// The argument that makes a process measure and print bare figures.
+const MEASURE: &str = "measure";
+
+/// One line for each list and variant: four times.
+fn print_times(works: &[Work]) {
+    for work in works {
+        for variant in &VARIANTS {
+            let [plain, model] = measure(work, variant);
+            println!(
+                "{} {} {} {}",
+                plain.least, plain.middle, model.least, model.middle
+            );
+        }
+    }
+}
+
+/// What another process measured, line by line.
+fn times_of_a_process() -> Vec<[Times; 2]> {
+    let program = env::current_exe().expect("the program has a path");
+    let output = Command::new(program).arg(MEASURE).output();
+    let output = output.expect("the program runs");
+    assert!(output.status.success());
+    let text = String::from_utf8(output.stdout).expect("the figures are text");
+    let times = |line: &str| {
+        let figures: Vec<f64> = line.split(' ').map(|f| f.parse().unwrap()).collect();
+        [0, 2].map(|n| Times {
+            least: figures[n],
+            middle: figures[n + 1],
+        })
+    };
+    text.lines().map(times).collect()
+}
+
+/// The middle of some figures with their range.
+fn spread(mut figures: Vec<f64>) -> String {
+    figures.sort_by(f64::total_cmp);
+    let (first, last) = (figures[0], figures[figures.len() - 1]);
+    let middle = figures[figures.len() / 2];
+    format!("{middle:.2} ({first:.2}–{last:.2})")
+}
+
+fn print_row(work: &Work, variant: &str, processes: &[[Times; 2]]) {
+    let column = |figure: fn(&[Times; 2]) -> f64| spread(processes.iter().map(figure).collect());
+    println!(
+        "| {} | {} | {} | {} | {} | {} | {} |",
+        work.name,
+        work.cap,
+        variant,
+        column(|[plain, _]| plain.least),
+        column(|[_, model]| model.least),
+        column(|[plain, model]| model.least / plain.least),
+        column(|[plain, model]| model.middle / plain.middle),
+    );
+}
+
+fn print_counts(works: &[Work]) {
+    println!(
+        "| List | Capacity | {} |",
+        LETTERS.map(|l| char::from(l).to_string()).join(" | ")
+    );
+    println!("|---|---|{}", "---|".repeat(LETTERS.len()));
+    for work in works {
+        let counts = verify::count(work);
+        assert!(work.name != "mixed" || verify::is_mixed_enough(&counts));
+        let cells = counts.map(|c| format!("{} of {}", c.answered, c.made));
+        println!("| {} | {} | {} |", work.name, work.cap, cells.join(" | "));
+    }
+}
+
+fn compare(works: &[Work], processes: usize) {
+    works.iter().for_each(verify::verify);
+    println!("Same count, last answer, store words and registers on every list.\n");
+    println!("Calls answered 0, of those made:\n");
+    print_counts(works);
+    let all: Vec<_> = (0..processes).map(|_| times_of_a_process()).collect();
+    println!("\nNanoseconds a call, least of a process's runs, and ratios of model to plain, of least and of middle");
+    println!("times; each the middle over {processes} processes, with the range:\n");
+    println!(
+        "| List | Capacity | Model | Plain ns | Model ns | Ratio of least | Ratio of middle |"
+    );
+    println!("|---|---|---|---|---|---|---|");
+    let rows = works
+        .iter()
+        .flat_map(|w| VARIANTS.iter().map(move |v| (w, v)));
+    for (n, (work, variant)) in rows.enumerate() {
+        let times: Vec<_> = all.iter().map(|process| process[n]).collect();
+        print_row(work, variant.name, &times);
+    }
+}
+
+fn main() {
+    let works = work::all();
+    match env::args().nth(1).as_deref() {
+        Some(MEASURE) => print_times(&works),
+        Some(count) => compare(&works, count.parse().expect("a number of processes")),
+        None => compare(&works, 5),
+    }
+}

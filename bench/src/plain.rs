@@ -361,6 +361,8 @@ impl Bank {
         }
     }
 
+    /// Apart from the calls, which then have the registers to themselves.
+    #[inline(never)]
     fn is_well_formed(&self) -> bool {
         self.are_rings_ok()
             && (self.ops < 128)

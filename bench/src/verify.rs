@@ -5,7 +5,7 @@ use crate::work::Work;
 use bench::plain::{offset, Call};
 use bench::trace::{self, LETTERS};
 
-/// Calls of each letter that 01 (02, section 9) wants answered 0 in the mixed list.
+/// 02, section 9: "each letter answered 0 ten thousand times or more".
 const LEAST_ANSWERED: usize = 10_000;
 
 /// How many calls of a letter a list has, and how many of them are answered 0.

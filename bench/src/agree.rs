@@ -1,6 +1,8 @@
 //! The plain engine gives what the second program gives, after every call of several lists.
 
-use crate::plain::{offset, Answer, Bank, Call, Kind, Phase, Requests, Transfer};
+use crate::plain::call::Call;
+use crate::plain::transfer::{Kind, Phase, Requests, Transfer};
+use crate::plain::{offset, Answer, Bank};
 use crate::trace;
 use reference::SetupNumbers;
 
@@ -132,7 +134,7 @@ fn gives_what_the_second_program_gives() {
 fn lists_of_one_kind_give_what_the_second_program_gives() {
     for letter in trace::LETTERS {
         let mut pair = Pair::new(SET_UPS[1]);
-        pair.list(&trace::of_kind(letter, 64, 10_000, 7));
+        pair.list(&trace::kinds::list(letter, 64, 10_000, 7));
         pair.drain();
     }
 }

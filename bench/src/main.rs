@@ -1,5 +1,6 @@
 //! The benchmark: verifies that the model and the plain engine leave the same, then times both in
-//! several processes and prints tables. `bench [PROCESSES]`, 5 where none is given.
+//! several processes and prints tables. `bench [PROCESSES [LIST]]`: 5 processes and every list where
+//! none is given.
 
 mod measure;
 mod model;
@@ -30,9 +31,9 @@ fn print_times(works: &[Work]) {
 }
 
 /// What another process measured, line by line.
-fn times_of_a_process() -> Vec<[Times; 2]> {
+fn times_of_a_process(list: &str) -> Vec<[Times; 2]> {
     let program = env::current_exe().expect("the program has a path");
-    let output = Command::new(program).arg(MEASURE).output();
+    let output = Command::new(program).args([MEASURE, list]).output();
     let output = output.expect("the program runs");
     assert!(output.status.success());
     let text = String::from_utf8(output.stdout).expect("the figures are text");
@@ -82,21 +83,23 @@ fn print_counts(works: &[Work]) {
     }
 }
 
-fn compare(works: &[Work], processes: usize) {
+fn compare(works: &[Work], processes: usize, list: &str) {
     works.iter().for_each(verify::verify);
     println!("Same count, last answer, store words and registers on every list.\n");
     println!("Calls answered 0, of those made:\n");
     print_counts(works);
-    let all: Vec<_> = (0..processes).map(|_| times_of_a_process()).collect();
-    println!("\nNanoseconds a call, least of a process's runs, and ratios of model to plain, of least and of middle");
-    println!("times; each the middle over {processes} processes, with the range:\n");
+    let all: Vec<_> = (0..processes).map(|_| times_of_a_process(list)).collect();
+    println!(
+        "\nNanoseconds a call, least of a process's runs, and ratios of model to plain, of least"
+    );
+    println!("and of middle times; each the middle over {processes} processes, with the range:\n");
     println!(
         "| List | Capacity | Model | Plain ns | Model ns | Ratio of least | Ratio of middle |"
     );
     println!("|---|---|---|---|---|---|---|");
     let rows = works
         .iter()
-        .flat_map(|w| VARIANTS.iter().map(move |v| (w, v)));
+        .flat_map(|work| VARIANTS.iter().map(move |variant| (work, variant)));
     for (n, (work, variant)) in rows.enumerate() {
         let times: Vec<_> = all.iter().map(|process| process[n]).collect();
         print_row(work, variant.name, &times);
@@ -104,10 +107,19 @@ fn compare(works: &[Work], processes: usize) {
 }
 
 fn main() {
-    let works = work::all();
-    match env::args().nth(1).as_deref() {
-        Some(MEASURE) => print_times(&works),
-        Some(count) => compare(&works, count.parse().expect("a number of processes")),
-        None => compare(&works, 5),
+    let arguments: Vec<String> = env::args().skip(1).collect();
+    let (first, list) = match arguments.as_slice() {
+        [] => ("5", ""),
+        [first] => (first.as_str(), ""),
+        [first, list, ..] => (first.as_str(), list.as_str()),
+    };
+    let mut works = work::all();
+    works.retain(|work| list.is_empty() || work.name == list);
+    assert!(!works.is_empty(), "no list {list}");
+    if first == MEASURE {
+        print_times(&works);
+    } else {
+        let processes = first.parse().expect("a number of processes");
+        compare(&works, processes, list);
     }
 }

@@ -5,7 +5,7 @@ use crate::work::Work;
 use std::hint::black_box;
 use std::time::Instant;
 
-const RUNS: usize = 15;
+const RUNS: usize = 21;
 
 /// The least and the middle time of a side's runs, in nanoseconds a call.
 #[derive(Clone, Copy)]

@@ -2,7 +2,8 @@
 
 use crate::model::{Variant, VARIANTS};
 use crate::work::Work;
-use bench::plain::{offset, Call};
+use bench::plain::call::Call;
+use bench::plain::offset;
 use bench::trace::{self, LETTERS};
 
 /// 02, section 9: "each letter answered 0 ten thousand times or more".

@@ -25,7 +25,7 @@ pub fn all() -> Vec<Work> {
     let kinds = trace::LETTERS.map(|letter| Work {
         name: format!("mostly {}", char::from(letter)),
         cap: CAP,
-        calls: trace::of_kind(letter, CAP, trace::CALLS, SEED),
+        calls: trace::kinds::list(letter, CAP, trace::CALLS, SEED),
     });
     let sweep = [4, 64, 1024].map(|cap| Work {
         name: "mixed for 4".to_string(),

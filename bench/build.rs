@@ -1,0 +1,13 @@
+//! Says where the archive of the model lies: in the folder TIMING_DIR, or where rt writes it.
+
+use std::{env, path::Path};
+
+fn main() {
+    let here = env::var("CARGO_MANIFEST_DIR").expect("cargo names the manifest's folder");
+    let written = Path::new(&here).join("../target/staticlib");
+    let folder = env::var_os("TIMING_DIR").map_or(written, Into::into);
+    println!("cargo:rustc-link-search=native={}", folder.display());
+    println!("cargo:rerun-if-env-changed=TIMING_DIR");
+    let archive = folder.join("libtiming.a");
+    println!("cargo:rerun-if-changed={}", archive.display());
+}

@@ -1,0 +1,50 @@
+//! Times one process's runs of a list: plain engine and model by turns, each on a cleared store.
+
+use crate::model::Variant;
+use crate::work::Work;
+use std::hint::black_box;
+use std::time::Instant;
+
+const RUNS: usize = 21;
+
+/// The least and the middle time of a side's runs, in nanoseconds a call.
+#[derive(Clone, Copy)]
+pub struct Times {
+    pub least: f64,
+    pub middle: f64,
+}
+
+impl Times {
+    fn of(mut runs: Vec<f64>) -> Times {
+        runs.sort_by(f64::total_cmp);
+        Times {
+            least: runs[0],
+            middle: runs[runs.len() / 2],
+        }
+    }
+}
+
+/// The time of one run, in nanoseconds a call.
+fn time(calls: &[u32], store: &mut [u32], run: impl FnOnce(&mut [u32], &[u32])) -> f64 {
+    store.fill(0);
+    let start = Instant::now();
+    run(black_box(&mut *store), black_box(calls));
+    let spent = start.elapsed();
+    black_box(store);
+    spent.as_secs_f64() * 1e9 / (calls.len() / 3) as f64
+}
+
+/// Plain engine, then model.
+pub fn measure(work: &Work, variant: &Variant) -> [Times; 2] {
+    let (mut plain, mut model) = (Vec::new(), Vec::new());
+    let mut store = work.store();
+    for _ in 0..RUNS {
+        plain.push(time(&work.calls, &mut store, |store, calls| {
+            black_box(work.run_plain(store, calls));
+        }));
+        model.push(time(&work.calls, &mut store, |store, calls| {
+            black_box(variant.run(work.cap, store, calls));
+        }));
+    }
+    [Times::of(plain), Times::of(model)]
+}

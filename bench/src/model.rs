@@ -8,7 +8,7 @@ type Exported =
 
 #[link(name = "timing", kind = "static")]
 extern "C" {
-    fn run_each(
+    fn run_list(
         cap: u32,
         store: *mut u32,
         store_len: usize,
@@ -25,10 +25,12 @@ pub struct Variant {
     exported: Exported,
 }
 
-pub const VARIANTS: [Variant; 1] = [Variant {
-    name: "call by call",
-    exported: run_each,
-}];
+pub const VARIANTS: [Variant; 1] = [
+    Variant {
+        name: "one call for the list",
+        exported: run_list,
+    },
+];
 
 impl Variant {
     /// Sets up a bank with every capacity `cap` and makes the calls of a list.

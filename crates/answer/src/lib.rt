@@ -3,7 +3,7 @@
 ghost use mathlib.Core.Path.{_≡_};
 ghost use mathlib.Core.Bool.{cond, true};
 ghost use Prim.Native.Nat.{_+_, _<_, _≤_};
-ghost use lib.ListN.{length, getD};
+ghost use lib.ListN.{length, getD, set};
 ghost use Rattle.ring.specs.Ring.{Valid, entries};
 ghost use Rattle.bank.proofs.Laws.{Ready};
 ghost use Rattle.model.specs.Decision.{keep, clear, take, push, push2};
@@ -73,15 +73,24 @@ pub fn take(r: Ring, n: u32) -> Ring
     ring::take(r, Words(n))
 }
 
-// The ring without its first entry, where that goes.
+// The ring without its first entry, where that goes. Here and in `push_if` the ring is put together in one place: two
+// copies that meet would keep it in memory.
 pub fn take_if(r: Ring, goes: bool) -> Ring
     requires { ⌜ (Valid r) × (goes ≡ true → 0 < r .level .0) ⌝ }
     ensures { λ p. ⌜ p ≡ onRing (cond goes (take 1) keep) r ⌝ }
 {
-    if goes {
-        return ring::take(r, Words(1));
+    let n = bank::select(goes, 1, 0);
+    ring::take(r, Words(n))
+}
+
+// A word of the store, where it comes.
+fn put_if(store: &mut [u32], at: usize, comes: bool, w: u32)
+    requires { ⌜ at < length (now store) ⌝ }
+    ensures { λ _. ⌜ now (store .exit) ≡ cond comes (set (now (store .entry)) at w) (now (store .entry)) ⌝ }
+{
+    if comes {
+        store[at] = w;
     }
-    r
 }
 
 // The ring with one entry more, where that comes.
@@ -89,10 +98,12 @@ pub fn push_if(r: Ring, base: usize, store: &mut [u32], comes: bool, w: u32) -> 
     requires { ⌜ (Valid r) × (comes ≡ true → r .level .0 < r .cap .0) × (base + r .cap .0 ≤ length (now store)) ⌝ }
     ensures { λ p. ⌜ (p ≡ onRing (cond comes (push w) keep) r) × (now (store .exit) ≡ onStore (cond comes (push w) keep) (area r base) (now (store .entry))) ⌝ }
 {
-    if comes {
-        return ring::push(r, base, store, w);
-    }
-    r
+    let at = base + ring::place(r, r.level.0) as usize;
+    put_if(store, at, comes, w);
+    let level = r.level.0 + bank::select(comes, 1, 0);
+    let mut next = r;
+    next.level.0 = level;
+    next
 }
 
 // The ring with two entries more.

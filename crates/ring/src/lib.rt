@@ -28,7 +28,7 @@ pub struct Ring {
 }
 
 // The place `i` after the head: one comparison and one subtraction, no division.
-fn place(r: Ring, i: u32) -> u32
+pub fn place(r: Ring, i: u32) -> u32
     requires { ⌜ (Valid r) × (i ≤ r .cap .0) ⌝ }
     ensures { λ p. ⌜ (p ≡ placeOf r i) × (p < r .cap .0) ⌝ }
 {

@@ -1,23 +1,48 @@
 -- `answer::push_if` meets its contract.
-use mathlib.Core.Path.{refl}
-use Rattle.model.specs.Rings.{onRing, onStore}
+use mathlib.Core.Path.{_∙_}
+use Rattle.answer.proofs.Conditions.{pushed-if, stored-if, grown}
 use borrow.Author.Needs.{needs}
 use Rattle.answer.proofs.push_if.Statement.{statement}
 use Rattle.answer.proofs.push_if.Tie as tie
 
-push-requires : tie.Need-push-requires
-push-requires c κs = (c .before .before .before .pre .0, c .before .before .before .pre .1 (c .before .if1 .taken), c .before .before .before .pre .2)
+place-requires : tie.Need-place-requires
+place-requires c κs = search needs
+
+cast-at : tie.Need-cast-at
+cast-at c = search needs
+
+add-at : tie.Need-add-at
+add-at c = search needs
+
+put-if-requires : tie.Need-put-if-requires
+put-if-requires c κs = search needs
+
+select-requires : tie.Need-select-requires
+select-requires c κs = search needs
+
+add-level : tie.Need-add-level
+add-level c =
+    let a = c .before .before .before .before .before .before .before .before in
+    let h = grown (a .args .comes) (a .args .r .level .0) (a .args .r .cap .0) (a .pre .0 .level-most) (a .pre .0 .cap-most) in
+    rw (c .before .select .ensures) (record { fits = h })
 
 same-length : tie.Need-same-length
 same-length c = search needs
 
 returns : tie.Need-returns
-unfolding onRing onStore
-returns c = rw (c .before .before .before .before .if1 .taken) (c .before .before .push .ensures)
-
-returns-2 : tie.Need-returns-2
-unfolding onRing onStore
-returns-2 c = rw (c .if1 .left) (refl, refl)
+returns c =
+    let a = c .before .before .before .before .before .before .before .before .before in
+    (rw (c .before .before .select .ensures) (pushed-if (a .args .comes) (a .args .w) (a .args .r)), rw (c .before .before .before .before .before .put-if .ensures, c .before .before .before .before .before .before .before .place .ensures .0) (stored-if (a .args .comes) (a .args .w) (a .args .r) (a .args .base) (a .args .store .now)))
 
 pub push-if-spec : {M : Type 1} → statement M
-push-if-spec = tie.close (tie.spec push-requires same-length returns returns-2)
+push-if-spec =
+    tie.close
+    (tie.spec
+    place-requires
+    cast-at
+    add-at
+    put-if-requires
+    select-requires
+    add-level
+    same-length
+    returns)

@@ -34,7 +34,7 @@ struct Reached {
 }
 
 // The call at a place of the list: a layer, no interface.
-fn entry(calls: &[u32], i: usize) -> Parsed
+pub fn entry(calls: &[u32], i: usize) -> Parsed
     requires { ⌜ 3 * i + 3 ≤ length (now calls) ⌝ }
     ensures { λ p. ⌜ p ≡ entryAt (now (calls .entry)) i ⌝ }
 {

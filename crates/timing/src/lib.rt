@@ -1,9 +1,10 @@
-// What the benchmark times: a list of calls, three numbers each, made on a bank that lives inside the exported call.
+// What both timed functions share: the bank that they set up, and where the last answer goes.
+use bank::Answer;
 use bank::Bank;
 use bank::Sizes;
 
 // Every capacity `cap`, almost-empty watermarks 1, almost-full one less than the capacity, ID 0.
-fn fresh(cap: u32) -> Bank {
+pub fn fresh(cap: u32) -> Bank {
     let caps = Sizes {
         cmd: cap,
         cmdr: cap,
@@ -24,19 +25,9 @@ fn fresh(cap: u32) -> Bank {
 }
 
 // The last answer, where there is room for it.
-fn keep(last: &mut [u32], value: u32, number: u32) {
+pub fn keep(last: &mut [u32], a: Answer) {
     if 2 <= last.len() {
-        last[0] = value;
-        last[1] = number;
+        last[0] = a.value;
+        last[1] = a.number;
     }
-}
-
-// The same by one call for the whole list.
-#[no_mangle]
-pub extern "C" fn run_list(cap: u32, store: &mut [u32], calls: &[u32], last: &mut [u32]) -> u32 {
-    let bank = fresh(cap);
-    let out = run::run(bank, store, calls, calls.len());
-    let answer = out.made.answer;
-    keep(last, answer.value, answer.number);
-    (out.made.count % 4294967296) as u32
 }

@@ -1,0 +1,12 @@
+// What the benchmark times: a list of calls by one call. The bank lives inside the exported function, which can take no
+// reference that leads to an enum. A crate of its own: the loop is then the only caller of the step, and has it inlined.
+
+// Makes the calls of a list on a bank with every capacity `cap`, and gives how many it made.
+#[no_mangle]
+pub extern "C" fn run_list(cap: u32, store: &mut [u32], calls: &[u32], last: &mut [u32]) -> u32 {
+    let bank = timing::fresh(cap);
+    let out = run::run(bank, store, calls, calls.len());
+    let answer = out.made.answer;
+    timing::keep(last, answer);
+    (out.made.count % 4294967296) as u32
+}

@@ -1,4 +1,4 @@
-//! Says where the archive of the model lies: in the folder TIMING_DIR, or where rt writes it.
+//! Says where the archives of the model lie: in the folder TIMING_DIR, or where rt writes them.
 
 use std::{env, path::Path};
 
@@ -8,6 +8,7 @@ fn main() {
     let folder = env::var_os("TIMING_DIR").map_or(written, Into::into);
     println!("cargo:rustc-link-search=native={}", folder.display());
     println!("cargo:rerun-if-env-changed=TIMING_DIR");
-    let archive = folder.join("libtiming.a");
-    println!("cargo:rerun-if-changed={}", archive.display());
+    for name in ["libtiming_list.a", "libtiming_each.a"] {
+        println!("cargo:rerun-if-changed={}", folder.join(name).display());
+    }
 }

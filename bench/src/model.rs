@@ -1,4 +1,5 @@
-//! The proved model: the functions of the archive that `rt staticlib timing` writes.
+//! The proved model: the functions of the archives that `rt staticlib timing_list` and
+//! `rt staticlib timing_each` write.
 
 use bench::plain::{Answer, Ran};
 
@@ -6,9 +7,22 @@ use bench::plain::{Answer, Ran};
 type Exported =
     unsafe extern "C" fn(u32, *mut u32, usize, *const u32, usize, *mut u32, usize) -> u32;
 
-#[link(name = "timing", kind = "static")]
+#[link(name = "timing_list", kind = "static")]
 extern "C" {
     fn run_list(
+        cap: u32,
+        store: *mut u32,
+        store_len: usize,
+        calls: *const u32,
+        calls_len: usize,
+        last: *mut u32,
+        last_len: usize,
+    ) -> u32;
+}
+
+#[link(name = "timing_each", kind = "static")]
+extern "C" {
+    fn run_each(
         cap: u32,
         store: *mut u32,
         store_len: usize,
@@ -25,10 +39,14 @@ pub struct Variant {
     exported: Exported,
 }
 
-pub const VARIANTS: [Variant; 1] = [
+pub const VARIANTS: [Variant; 2] = [
     Variant {
         name: "one call for the list",
         exported: run_list,
+    },
+    Variant {
+        name: "call by call",
+        exported: run_each,
     },
 ];
 

@@ -3,7 +3,6 @@
 ghost use Prim.Native.Nat.{_≤_};
 ghost use lib.ListN.{length};
 use bank::Bank;
-use bank::Sizes;
 use lines::Reading;
 
 // The bank and the line so far; whether there may be more to read; whether all output was written.
@@ -12,26 +11,6 @@ struct Went {
     line: Reading,
     more: bool,
     written: bool,
-}
-
-// 01: "Its bank has every capacity 4, almost-empty watermarks 1, almost-full 3, ID 0."
-fn fresh() -> Bank {
-    let caps = Sizes {
-        cmd: 4,
-        cmdr: 4,
-        sdo: 4,
-        sdi: 4,
-        ibi: 4,
-    };
-    let marks = Sizes {
-        cmd: 1,
-        cmdr: 3,
-        sdo: 1,
-        sdi: 3,
-        ibi: 3,
-    };
-    let r = setup::set_up(caps, marks, 0);
-    r.bank
 }
 
 // The next piece of the input.
@@ -74,7 +53,7 @@ fn end(b: Bank, line: Reading, store: &mut [u32], out: &mut [u8])
 fn main() {
     let mut store = [0u32; 20];
     let mut out = io::large_buffer();
-    let mut bank = fresh();
+    let mut bank = setup::session_bank();
     let mut line = lines::begin();
     let mut written = true;
     let mut more = true;

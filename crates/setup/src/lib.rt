@@ -107,3 +107,25 @@ pub fn set_up(caps: Sizes, marks: Sizes, id: u32) -> SetUp
     }
     refused_set_up()
 }
+
+// The bank of 01's session: "every capacity 4, almost-empty watermarks 1, almost-full 3, ID 0".
+pub fn session_bank() -> Bank
+    ensures { λ b. ⌜ b ≡ setUp (record { cmd = 4; cmdr = 4; sdo = 4; sdi = 4; ibi = 4 }) (record { cmd = 1; cmdr = 3; sdo = 1; sdi = 3; ibi = 3 }) 0 .bank ⌝ }
+{
+    let caps = Sizes {
+        cmd: 4,
+        cmdr: 4,
+        sdo: 4,
+        sdi: 4,
+        ibi: 4,
+    };
+    let marks = Sizes {
+        cmd: 1,
+        cmdr: 3,
+        sdo: 1,
+        sdi: 3,
+        ibi: 3,
+    };
+    let r = set_up(caps, marks, 0);
+    r.bank
+}

@@ -30,12 +30,6 @@ struct Went {
     written: bool,
 }
 
-// The bank of a session: "every capacity 4, almost-empty watermarks 1, almost-full 3, ID 0".
-fn fresh() -> Bank {
-    let s = setups::from_fields([0, 4, 4, 4, 4, 4, 1, 3, 1, 3, 3, 0]);
-    s.bank
-}
-
 // A line before its first byte.
 fn begin() -> Line {
     Line {
@@ -162,7 +156,7 @@ fn main() {
     // Room for five queues of the largest capacity.
     let mut store = [0u32; 5120];
     let mut out = io::large_buffer();
-    let mut bank = fresh();
+    let mut bank = setup::session_bank();
     let mut line = begin();
     let mut written = true;
     let mut more = true;

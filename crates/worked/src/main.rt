@@ -3,7 +3,6 @@
 // that it is about.
 ghost use Prim.Native.Nat.{_<_};
 use bank::Bank;
-use bank::Sizes;
 use model::Call;
 
 const ENABLE: u16 = 0x040;
@@ -27,24 +26,9 @@ struct Board {
     store: [u32; 20],
 }
 
-// 01: "Its bank has every capacity 4, almost-empty watermarks 1, almost-full 3, ID 0."
+// The bank of 01's session, and its store.
 fn fresh() -> Board {
-    let caps = Sizes {
-        cmd: 4,
-        cmdr: 4,
-        sdo: 4,
-        sdi: 4,
-        ibi: 4,
-    };
-    let marks = Sizes {
-        cmd: 1,
-        cmdr: 3,
-        sdo: 1,
-        sdi: 3,
-        ibi: 3,
-    };
-    let r = setup::set_up(caps, marks, 0);
-    let b = r.bank;
+    let b = setup::session_bank();
     Board {
         bank: b,
         store: [0u32; 20],

@@ -5,7 +5,8 @@
 
 The script goes to standard output. It has exactly LINES calls; lines that are
 no calls come on top. The same arguments give the same bytes. With --test the
-script also has set-up lines (B and eleven numbers). RULE.md gives the rule.
+script also has set-up lines (B and eleven numbers). docs/GENERATOR.md gives the
+rule.
 """
 
 import sys

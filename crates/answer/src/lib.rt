@@ -31,20 +31,6 @@ pub struct Out {
     pub answer: Answer,
 }
 
-// A refusal: the state as it was, value 0.
-pub fn refuse(st: State, n: u32) -> Next
-    ensures { λ r. ⌜ r ≡ refusedNext st n ⌝ }
-{
-    let a = Answer {
-        value: 0,
-        number: n,
-    };
-    Next {
-        state: st,
-        answer: a,
-    }
-}
-
 // A call that is done.
 pub fn done(q: Queues, g: Regs, c: Control, p: Phase, value: u32, number: u32) -> Next
     ensures { λ r. ⌜ r ≡ doneNext q g c p value number ⌝ }
@@ -63,6 +49,18 @@ pub fn done(q: Queues, g: Regs, c: Control, p: Phase, value: u32, number: u32) -
         state: s,
         answer: a,
     }
+}
+
+// A refusal: the state as it was, value 0. It is put together as a call that is done is: two copies that meet would keep
+// the state in memory.
+pub fn refuse(st: State, n: u32) -> Next
+    ensures { λ r. ⌜ r ≡ refusedNext st n ⌝ }
+{
+    let q = st.queues;
+    let g = st.regs;
+    let c = st.control;
+    let p = st.phase;
+    done(q, g, c, p, 0, n)
 }
 
 // The ring without its first entries.

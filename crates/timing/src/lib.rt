@@ -1,10 +1,21 @@
 // What both timed functions share: the bank that they set up, and where the last answer goes.
+ghost use mathlib.Core.Path.{_≡_};
+ghost use Prim.Native.Nat.{_-_};
+ghost use Rattle.timing.specs.Timing.{freshOf, keptIn};
 use bank::Answer;
 use bank::Bank;
 use bank::Sizes;
 
+fn less_one(cap: u32) -> u32
+    ensures { λ n. ⌜ n ≡ cap - 1 ⌝ }
+{
+    if cap == 0 { 0 } else { cap - 1 }
+}
+
 // Every capacity `cap`, almost-empty watermarks 1, almost-full one less than the capacity, ID 0.
-pub fn fresh(cap: u32) -> Bank {
+pub fn fresh(cap: u32) -> Bank
+    ensures { λ b. ⌜ b ≡ freshOf cap ⌝ }
+{
     let caps = Sizes {
         cmd: cap,
         cmdr: cap,
@@ -12,7 +23,7 @@ pub fn fresh(cap: u32) -> Bank {
         sdi: cap,
         ibi: cap,
     };
-    let most = if cap == 0 { 0 } else { cap - 1 };
+    let most = less_one(cap);
     let marks = Sizes {
         cmd: 1,
         cmdr: most,
@@ -25,8 +36,10 @@ pub fn fresh(cap: u32) -> Bank {
 }
 
 // The last answer, where there is room for it.
-pub fn keep(last: &mut [u32], a: Answer) {
-    if 2 <= last.len() {
+pub fn keep(last: &mut [u32], a: Answer)
+    ensures { λ _. ⌜ now (last .exit) ≡ keptIn (now (last .entry)) a ⌝ }
+{
+    if 1 < last.len() {
         last[0] = a.value;
         last[1] = a.number;
     }

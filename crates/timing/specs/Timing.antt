@@ -1,0 +1,17 @@
+-- What both timed functions share: the bank that they set up, and where the last answer goes.
+use Prim.Native.Nat.{ℕ, _-_}
+use mathlib.Core.Bool.{cond}
+use mathlib.Core.List.{List}
+use lib.Dec.{ltb}
+use lib.ListN.{length, set}
+use Rattle.bank.specs.declared.Answer.{Answer}
+use Rattle.bank.specs.declared.Bank.{Bank}
+use Rattle.bank.specs.SetUp.{setUp}
+
+-- every capacity cap, almost-empty watermarks 1, almost-full one less than the capacity, ID 0
+abbrev pub freshOf : ℕ → Bank
+freshOf cap = setUp (record { cmd = cap; cmdr = cap; sdo = cap; sdi = cap; ibi = cap }) (record { cmd = 1; cmdr = cap - 1; sdo = 1; sdi = cap - 1; ibi = cap - 1 }) 0 .bank
+
+-- value and number, where there is room for both
+abbrev pub keptIn : List ℕ → Answer → List ℕ
+keptIn ws a = cond (ltb 1 (length ws)) (set (set ws 0 (a .value)) 1 (a .number)) ws

@@ -6,7 +6,6 @@ use lib.ListN.{length, getD}
 use lib.Dec.{ltb}
 use mathlib.Core.Bool.{cond}
 use Rattle.bank.specs.declared.Answer.{Answer}
-use Rattle.model.specs.declared.Call.{Call}
 use Rattle.model.specs.Engine.{step}
 use Rattle.model.specs.Rings.{Controller, rings}
 use Rattle.lines.specs.declared.Parsed.{Parsed}

@@ -13,8 +13,8 @@ use Rattle.timing_list.proofs.run_list.Tie as tie
 fresh-requires : tie.Need-fresh-requires
 fresh-requires c κs = search needs
 
-run-requires : tie.Need-run-requires
-run-requires c κs = search needs
+run-once-requires : tie.Need-run-once-requires
+run-once-requires c κs = search needs
 
 keep-requires : tie.Need-keep-requires
 keep-requires c κs = search needs
@@ -31,7 +31,7 @@ same-length-2 c = search needs
 returns : tie.Need-returns
 returns c =
     let a = c .before .before .before .before .before .before .before .before .before .before .before .before .before .before .args in
-    let e = c .before .before .before .before .before .before .before .before .run .ensures ∙ ap (λ (b : Bank). runOf (length (a .calls .now)) (a .calls .now) (controller b (a .store .now))) (c .before .before .before .before .before .before .before .before .before .before .fresh .ensures) in
+    let e = c .before .before .before .before .before .before .before .before .run-once .ensures ∙ ap (λ (b : Bank). runOf (length (a .calls .now)) (a .calls .now) (controller b (a .store .now))) (c .before .before .before .before .before .before .before .before .before .before .fresh .ensures) in
     (ap (λ (x : Course). x .count % 2 ^ 32) e, ap (λ (x : Course). x .left .store) e, c .before .before .before .keep .ensures ∙ ap (λ (x : Course). keptIn (a .last .now) (x .answer)) e)
 
 pub run-list-spec : {M : Type 1} → statement M
@@ -39,7 +39,7 @@ run-list-spec =
     tie.close
     (tie.spec
     fresh-requires
-    run-requires
+    run-once-requires
     keep-requires
     cast-result
     same-length

@@ -5,8 +5,8 @@
 #
 # PROGRAM and REFERENCE are commands that read a script from standard input.
 # LINES is the number of calls in all, shared out over the seeds. With --test
-# the scripts have set-up lines. Exit status 0 only if all output is the same,
-# both programs end with status 0 and all that the coverage asks for occurred.
+# the scripts have set-up and burst lines. Exit status 0 only if all output is the
+# same, both programs end with status 0 and all that the coverage asks for occurred.
 set -eu
 
 SEEDS="1 2 3 5 8 13 21 34"

@@ -5,8 +5,10 @@
 
 Each call line of a script is paired with its output line. Exit status 1 if
 something that a session can give has not occurred, 2 if lines do not pair.
-With --test the scripts have set-up lines (B and eleven numbers).
-"01" is the scope page.
+With --test the scripts have set-up lines (B and eleven numbers) and the lines of
+offload bursts: G, the trigger; O and a count, which lends the output to the
+events and has no output line; P and a place, which shows a word of the output.
+"01" is the scope page, "02" section 3 of the change requests.
 """
 
 import re
@@ -46,9 +48,17 @@ SESSION_PAIRS = {
     'D': (0, 5, 7, 10, 13),
     'A': (0, 5, 7, 10, 12, 19),
 }
+# What bursts add, by 02: 13 to each event ("at each event in an open burst too"),
+# 6 to a write ("writes to OPS and both offload memories are dropped whole (6 ...)"),
+# and the trigger: "5 and 6 as for start, then 8 when mode is 0, 28 length field 0,
+# 29 a command not carried, 13 output shorter than the reads". P is no call of the
+# bank.
+EVENTS = 'STXFIDAG'
 TEST_PAIRS = {**{letter: numbers + (21,) for letter, numbers in SESSION_PAIRS.items()},
-              'B': (0, 23)}
-NUMBERS = range(24)
+              'G': (0, 5, 6, 8, 21, 28, 29), 'P': (0,), 'B': (0, 23)}
+TEST_PAIRS.update({letter: TEST_PAIRS[letter] + (13,) for letter in EVENTS})
+TEST_PAIRS['W'] += (6,)
+NUMBERS = range(30)
 
 REGISTERS = {
     0x000: 'VERSION', 0x004: 'ID', 0x008: 'SCRATCH', 0x040: 'ENABLE', 0x080: 'IRQ_MASK',
@@ -66,8 +76,15 @@ READ_ONLY = {'VERSION', 'ID', 'IRQ_SOURCE', 'CMD room', 'CMDR level', 'SDO room'
              'IBI level', 'CMDR', 'SDI', 'IBI', 'FIFO_STATUS'}
 
 
-def write_numbers(register, held):
+def is_locked(register):
+    """02: "writes to OPS and both offload memories"."""
+    return register == 'OPS' or register.startswith('offload')
+
+
+def write_numbers(register, held, test):
     """Possible numbers of a write to a register of the map."""
+    if test and not held and is_locked(register):
+        return (0, 6)
     if register in READ_ONLY:
         return (2,)
     if register in ('CMD', 'SDO'):
@@ -84,12 +101,13 @@ def read_numbers(register, held):
     return (0,)
 
 
-def possible_accesses():
+def possible_accesses(test):
     """All (letter, register, held, number)."""
     wanted = []
     for held in (True, False):
         for register in REGISTERS.values():
-            wanted += [('W', register, held, number) for number in write_numbers(register, held)]
+            wanted += [('W', register, held, number) for number
+                       in write_numbers(register, held, test)]
             wanted += [('R', register, held, number) for number in read_numbers(register, held)]
         for outside in ('not in the map', 'not a multiple of 4'):
             wanted += [('W', outside, held, 4), ('R', outside, held, 4)]
@@ -130,6 +148,17 @@ def possible_endings():
     return wanted
 
 
+# Endings in a burst: only private commands, and 13 has no room to wait for.
+BURST_ENDINGS = {kind: states for kind, states in ENDINGS.items() if kind.startswith('private')}
+
+
+def possible_burst_endings():
+    """All (kind, state, code, number)."""
+    return [(kind, state, code, 0 if code in allowed else 14)
+            for kind, states in BURST_ENDINGS.items() for state, allowed in states.items()
+            for code in range(16)]
+
+
 QUEUES = ('CMD', 'CMDR', 'SDO', 'SDI', 'IBI')
 CMD, CMDR, SDO, SDI, IBI = range(5)
 LEAST_CAPACITIES = (2, 1, 1, 2, 1)
@@ -143,6 +172,15 @@ TEST_CAPACITIES = (1, 2, 3, 5, 1024)
 ORDERS = (('S', 6, 8), ('S', 6, 9), ('S', 8, 9), ('T', 20, 10), ('T', 10, 11), ('T', 11, 12),
           ('X', 20, 10), ('X', 10, 11), ('X', 11, 13), ('F', 14, 13), ('I', 6, 16), ('I', 16, 17),
           ('I', 16, 13), ('I', 17, 13), ('D', 10, 13), ('A', 10, 12))
+
+# The same in an open burst whose output is too short, so that 13 is given or 18
+# goes before it, and for the trigger.
+SHORT_ORDERS = (('S', 13, 6), ('G', 13, 6), ('I', 13, 6), ('T', 13, 20), ('T', 13, 10),
+                ('T', 13, 11), ('X', 13, 20), ('X', 13, 10), ('X', 13, 11), ('F', 13, 14),
+                ('D', 13, 10), ('A', 13, 10), ('F', 18, 13), ('I', 18, 13))
+TRIGGER_ORDERS = (('G', 5, 8), ('G', 5, 28), ('G', 5, 29), ('G', 6, 8), ('G', 6, 28),
+                  ('G', 6, 29), ('G', 6, 13), ('G', 8, 28), ('G', 8, 29), ('G', 8, 13),
+                  ('G', 29, 13))
 
 # Situations that a script for the session must reach.
 SESSION_SITUATIONS = (
@@ -198,48 +236,89 @@ TEST_SITUATIONS = (
     + ['set-up during a transfer', 'receipt number above 256', 'interrupt number above 256']
 )
 
-# Lines that are no calls, by the first pattern that fits.
+BURST_LENGTHS = range(1, 16)
+BURST_CODES = (0, 4, 6, 8)
+# Situations of bursts, for the same scripts.
+BURST_SITUATIONS = (
+    ['burst of %d commands finished' % count for count in BURST_LENGTHS]
+    + ['burst, write of %d, all sent' % length for length in range(5)]
+    + ['burst, read of %d, %d received' % (length, moved)
+       for length in range(5) for moved in range(length + 1)]
+    + ['burst, bytes of data word %d' % place for place in range(15)]
+    + ['burst, data word and command at different places',
+       'burst, data word passed over by a write without bytes',
+       'burst, last command not carried past the length']
+    + ['burst, code %d and on' % code for code in BURST_CODES]
+    + ['burst, code %d and closed' % code for code in BURST_CODES]
+    + ['%s: 13 in a burst' % letter for letter in EVENTS]
+    + ['%s: %d before %d' % order for order in SHORT_ORDERS + TRIGGER_ORDERS]
+    + ['write: 4 before 6']
+    + ['trigger, output too short by one', 'trigger, output fits', 'trigger, output longer',
+       'trigger, no reads and no output', 'trigger, not carried at the first place',
+       'trigger, not carried at the last place', 'trigger, CCC not carried',
+       'trigger, length above 4 not carried', 'trigger, length with low bits up to 4 not carried']
+    + ['output changed in a burst, too short', 'output changed in a burst, long enough']
+    + ['reset in a burst', 'reset in a burst, bytes received', 'reset in a burst, bytes sent',
+       'set-up in a burst', 'OPS read in a burst', 'release when released, burst open']
+    + ['burst, attached since the trigger', 'burst, detached since the trigger',
+       'burst, byte moved, device detached since it opened',
+       'burst, byte refused, device attached since it opened']
+    + ['burst after a direct transfer', 'direct transfer after a burst']
+    + ['burst finish, CMDR full', 'burst finish, SDI full', 'burst byte sent, SDO not empty',
+       'burst byte sent, SDO empty', 'burst, fourth byte received, SDI full']
+    + ['output word %d shown, written' % place for place in range(15)]
+    + ['output word %d shown, not written' % place for place in range(16)]
+)
+
 HEX = rb'[0-9a-fA-F]'
-NO_CALLS = [
-    ('longer than 65,536 bytes', rb'(?s:.{65537,})'),
-    ('longer than 4,096 bytes', rb'(?s:.{4097,})'),
-    ('longer than 100 bytes', rb'(?s:.{101,})'),
-    ('empty', rb''),
-    ('byte above 127', rb'(?s:.*[\x80-\xff].*)'),
-    ('carriage return at the end', rb'(?s:.*\r)'),
-    ('carriage return inside', rb'(?s:.*\r.*)'),
-    ('tab', rb'(?s:.*\t.*)'),
-    ('other control byte', rb'(?s:.*[\x00-\x1f\x7f].*)'),
-    ('leading space', rb' .*'),
-    ('trailing space', rb'.* '),
-    ('two spaces', rb'.*  .*'),
-    ('lower-case letter', rb'[wrstxfida]( .*)?'),
-    ('set-up line', rb'B( .*)?'),
-    ('unknown letter', rb'[^WRSTXFIDA].*'),
-    ('no space after the letter', rb'.[^ ].*'),
-    ('not a hex digit', rb'. .*[^0-9a-fA-F ].*'),
-    ('missing field', rb'[WRXFID]|[WID] [^ ]*'),
-    ('extra field', rb'[STA] .*|[RXF] [^ ]* .*|[WID] [^ ]* [^ ]* .*'),
-    ('too many digits', rb'[WR] %s{5,}.*|W .* %s{9,}|[XFI] %s{3,}.*|I .* %s{3,}|D .*%s{9,}.*'
-     % ((HEX,) * 5)),
-]
-NO_CALL_PATTERNS = [(name, re.compile(pattern)) for name, pattern in NO_CALLS]
+
+
+def no_calls(test):
+    """Lines that are no calls, by the first pattern that fits."""
+    letters = b'WRSTXFIDAGOP' if test else b'WRSTXFIDA'
+    patterns = [
+        ('longer than 65,536 bytes', rb'(?s:.{65537,})'),
+        ('longer than 4,096 bytes', rb'(?s:.{4097,})'),
+        ('longer than 100 bytes', rb'(?s:.{101,})'),
+        ('empty', rb''),
+        ('byte above 127', rb'(?s:.*[\x80-\xff].*)'),
+        ('carriage return at the end', rb'(?s:.*\r)'),
+        ('carriage return inside', rb'(?s:.*\r.*)'),
+        ('tab', rb'(?s:.*\t.*)'),
+        ('other control byte', rb'(?s:.*[\x00-\x1f\x7f].*)'),
+        ('leading space', rb' .*'),
+        ('trailing space', rb'.* '),
+        ('two spaces', rb'.*  .*'),
+        ('lower-case letter', rb'[%s]( .*)?' % letters.lower()),
+        ('set-up line', rb'B( .*)?'),
+        ('unknown letter', rb'[^%s].*' % letters),
+        ('no space after the letter', rb'.[^ ].*'),
+        ('not a hex digit', rb'. .*[^0-9a-fA-F ].*'),
+        ('missing field', rb'[WRXFIDOP]|[WID] [^ ]*'),
+        ('extra field', rb'[STAG] .*|[RXFOP] [^ ]* .*|[WID] [^ ]* [^ ]* .*'),
+        ('too many digits', rb'[WR] %s{5,}.*|W .* %s{9,}|[XFIO] %s{3,}.*|I .* %s{3,}'
+         rb'|D .*%s{9,}.*|P %s{2,}' % ((HEX,) * 6)),
+    ]
+    return patterns + [('output above 16 words', rb'O %s%s' % (HEX, HEX))] if test else patterns
+
+
 ENDS = ('newline', 'call without a newline', 'other line without a newline')
 
 CALL = rb'[STA]|R H{1,4}|W H{1,4} H{1,8}|[XF] H{1,2}|I H{1,2} H{1,2}|D H{1,8} H{1,8}'
-SET_UP = rb'B( H{1,8}){11}'
+TEST_CALL = CALL + rb'|B( H{1,8}){11}|G|P H'
+# Has no output line.
+LEND = re.compile(rb'O (0?%s|10)' % HEX)
 
 
 def call_pattern(test):
-    """Matches the lines that are calls."""
-    text = CALL + rb'|' + SET_UP if test else CALL
-    return re.compile(text.replace(b'H', HEX))
+    """Matches the lines that have an output line."""
+    return re.compile((TEST_CALL if test else CALL).replace(b'H', HEX))
 
 
 class Transfer:
-    """The open transfer."""
+    """The open transfer; `place` is that of its command in a burst."""
 
-    def __init__(self, first, second, devices):
+    def __init__(self, first, second, devices, place=None):
         ccc = second is not None
         direct = ccc and second >> 7 & 1 == 1
         self.entdaa = ccc and second & 0xff == 0x07
@@ -249,6 +328,7 @@ class Transfer:
         self.by_device = direct or not ccc
         self.attached = not self.by_device or devices[self.address] & 1 == 1
         self.moved = 0
+        self.place = place
         self.requests = 'no request made'
         self.request_refused = False
         self.kind = self.kind_name(ccc, direct, first >> 21 & 1)
@@ -275,11 +355,18 @@ class Transfer:
         return self.moved % 4 != 0
 
 
+def not_carried(word):
+    """02: "Only private commands of length at most 4 are carried." """
+    return word >> 22 & 1 == 1 or word >> 8 & 0xfff > 4
+
+
 class Follower:
     """Follows the calls of one script by their answers and counts."""
 
     def __init__(self, counts):
         self.counts = counts
+        self.lent = 0
+        self.written = set()
         self.new_bank([4] * 5)
 
     def new_bank(self, capacities):
@@ -288,8 +375,11 @@ class Follower:
         self.devices = [0] * 128
         self.config = 0
         self.offload = False
+        self.offload_length = 0
+        self.offload_commands = [0] * 16
         self.source = 0
         self.refused = False
+        self.last_closed = None
         self.clear()
 
     def clear(self):
@@ -325,8 +415,14 @@ class Follower:
     def follow(self, letter, fields, value, number):
         if letter == 'B':
             self.set_up(fields, number)
+        elif letter == 'P':
+            self.note('output word %d shown, %s' % (
+                fields[0], 'written' if fields[0] in self.written else 'not written'))
         elif not self.refused:
-            getattr(self, 'call_' + letter)(*fields, value, number)
+            if self.short() and letter in EVENTS:
+                self.note_short(letter, fields, number)
+            if not (self.in_burst() and number == 13):
+                getattr(self, 'call_' + letter)(*fields, value, number)
 
     # Accesses.
 
@@ -338,6 +434,8 @@ class Follower:
 
     def call_W(self, offset, word, value, number):
         self.count_access('W', offset, number)
+        if self.in_burst() and number == 4 and is_locked(REGISTERS.get(offset & 0xfffc, '')):
+            self.note('write: 4 before 6')
         if number != 0:
             return
         if offset == 0x0d4:
@@ -352,6 +450,9 @@ class Follower:
             self.write_pending(word)
         elif offset == 0x100:
             self.offload = word & 1 == 1
+            self.offload_length = word >> 1 & 0xf
+        elif 0x2c0 <= offset < 0x300:
+            self.offload_commands[(offset - 0x2c0) // 4] = word
         elif offset == 0x140:
             self.config = word & 3
         elif offset == 0x180 and word & 0x100:
@@ -363,7 +464,8 @@ class Follower:
             self.clear()
             self.source = 0
         elif not self.held and self.transfer:
-            self.note('release when released, transfer open')
+            self.note('release when released, %s open'
+                      % ('burst' if self.in_burst() else 'transfer'))
         self.held = bit == 1
 
     def note_reset(self):
@@ -371,6 +473,11 @@ class Follower:
         if self.held:
             self.note('reset in reset')
         if not transfer:
+            return
+        if self.in_burst():
+            self.note('reset in a burst')
+            if transfer.moved:
+                self.note('reset in a burst, bytes %s' % ('received' if transfer.read else 'sent'))
             return
         self.note('reset during ' + transfer.kind)
         if transfer.part():
@@ -397,6 +504,8 @@ class Follower:
         elif offset == 0x0e4:
             self.taken[IBI] += 1
             self.source &= ~0x40 if self.level(IBI) == 0 else 0xff
+        elif offset == 0x100 and self.in_burst():
+            self.note('OPS read in a burst')
         elif offset == 0x088:
             self.source = value
             for bit in range(8):
@@ -411,7 +520,7 @@ class Follower:
     def note_order(self, letter, number, later):
         """`later` has each number whose condition holds too."""
         for other, holds in later.items():
-            if holds and (letter, number, other) in ORDERS:
+            if holds and (letter, number, other) in ORDERS + SHORT_ORDERS + TRIGGER_ORDERS:
                 self.note('%s: %d before %d' % (letter, number, other))
 
     def call_S(self, value, number):
@@ -424,6 +533,8 @@ class Follower:
         first = self.cmd.popleft()
         second = self.cmd.popleft() if first >> 22 & 1 else None
         self.taken[CMD] += 1 if second is None else 2
+        if self.last_closed == 'burst':
+            self.note('direct transfer after a burst')
         self.transfer = Transfer(first, second, self.devices)
         if self.transfer.by_device and self.transfer.attached:
             self.counts.addresses['command to', self.transfer.address] += 1
@@ -445,10 +556,11 @@ class Follower:
         if not transfer or not transfer.by_device:
             return
         now = self.devices[transfer.address] & 1 == 1
+        burst, opened = ('burst, ', 'it opened') if self.in_burst() else ('', 'start')
         if number == 0 and not now:
-            self.note('byte moved, device detached since start')
+            self.note('%sbyte moved, device detached since %s' % (burst, opened))
         if number == 20 and now:
-            self.note('byte refused, device attached since start')
+            self.note('%sbyte refused, device attached since %s' % (burst, opened))
 
     def call_T(self, value, number):
         self.note_byte(number)
@@ -461,7 +573,9 @@ class Follower:
             self.note('SDO empty at a later word' if self.transfer.moved
                       else 'SDO empty at the first byte')
         if number == 0:
-            if self.transfer.moved % 4 == 0:
+            if self.in_burst():
+                self.note_burst_send()
+            elif self.transfer.moved % 4 == 0:
                 self.taken[SDO] += 1
             self.transfer.moved += 1
 
@@ -476,7 +590,10 @@ class Follower:
             self.note('no room at the fourth byte')
         if number == 0:
             self.transfer.moved += 1
-            if self.transfer.moved % 4 == 0:
+            if self.in_burst():
+                if self.transfer.moved == 4 and self.room(SDI) == 0:
+                    self.note('burst, fourth byte received, SDI full')
+            elif self.transfer.moved % 4 == 0:
                 self.push(SDI)
 
     def call_F(self, code, value, number):
@@ -485,6 +602,11 @@ class Follower:
         if number not in (0, 13, 14):
             return
         transfer = self.transfer
+        if self.in_burst():
+            self.counts.burst_endings[transfer.kind, transfer.state(), code, number] += 1
+            if number == 0:
+                self.finish_in_burst(code)
+            return
         self.counts.endings[transfer.kind, transfer.state(), code, number] += 1
         if number == 14:
             self.note_order('F', 14, {13: self.room(CMDR) == 0})
@@ -518,6 +640,7 @@ class Follower:
             self.note('read of 4,095 bytes' if self.transfer.read else 'write of 4,095 bytes')
         self.push(CMDR)
         self.transfer = None
+        self.last_closed = 'direct transfer'
         self.receipts += 1
         if self.receipts > 256:
             self.note('receipt number above 256')
@@ -586,12 +709,130 @@ class Follower:
             self.note('address taken')
             self.transfer.requests = 'request served'
 
+    # Bursts.
+
+    def in_burst(self):
+        return self.transfer is not None and self.transfer.place is not None
+
+    def burst_words(self):
+        return self.offload_commands[:self.offload_length]
+
+    def burst_reads(self):
+        return sum(word & 1 for word in self.burst_words())
+
+    def short(self):
+        return self.in_burst() and self.lent < self.burst_reads()
+
+    def lend(self, count):
+        self.lent = count
+        self.written.clear()
+        if self.in_burst():
+            self.note('output changed in a burst, '
+                      + ('too short' if self.short() else 'long enough'))
+
+    def note_short(self, letter, fields, number):
+        """An event in an open burst whose output is too short."""
+        transfer = self.transfer
+        later = {13: number == 18}
+        if number == 13:
+            self.note('%s: 13 in a burst' % letter)
+            whole = transfer.moved == transfer.length
+            later = {6: letter in 'SGI', 20: not transfer.attached,
+                     10: letter in 'DA' or transfer.read == (letter == 'T'), 11: whole,
+                     14: letter == 'F'
+                     and fields[0] not in BURST_ENDINGS[transfer.kind][transfer.state()]}
+        self.note_order(letter, number, later)
+
+    def call_G(self, value, number):
+        words, reads = self.burst_words(), self.burst_reads()
+        wrong = [place for place, word in enumerate(words) if not_carried(word)]
+        if number in (5, 6, 8, 29):
+            self.note_order('G', number, {8: not self.offload, 28: not words, 29: bool(wrong),
+                                          13: self.lent < reads and not self.in_burst()})
+        if number == 29:
+            self.note_not_carried(words, wrong)
+        if number == 13 and self.lent == reads - 1:
+            self.note('trigger, output too short by one')
+        if number == 0:
+            self.open_burst(reads)
+
+    def note_not_carried(self, words, wrong):
+        if wrong[0] == 0:
+            self.note('trigger, not carried at the first place')
+        if wrong == [len(words) - 1]:
+            self.note('trigger, not carried at the last place')
+        if len(wrong) == 1:
+            word = words[wrong[0]]
+            length = word >> 8 & 0xfff
+            if word >> 22 & 1:
+                self.note('trigger, CCC not carried')
+            else:
+                self.note('trigger, length above 4 not carried')
+                if length & 7 <= 4:
+                    self.note('trigger, length with low bits up to 4 not carried')
+
+    def open_burst(self, reads):
+        if not reads and not self.lent:
+            self.note('trigger, no reads and no output')
+        elif reads:
+            self.note('trigger, output ' + ('fits' if self.lent == reads else 'longer'))
+        if not_carried(self.offload_commands[self.offload_length]):
+            self.note('burst, last command not carried past the length')
+        if self.last_closed == 'direct transfer':
+            self.note('burst after a direct transfer')
+        self.at_trigger = list(self.devices)
+        self.empty_write_before = False
+        self.open_in_burst(0)
+
+    def open_in_burst(self, place):
+        words = self.burst_words()
+        if place == len(words):
+            self.transfer = None
+            self.last_closed = 'burst'
+            self.note('burst of %d commands finished' % place)
+            return
+        self.transfer = Transfer(words[place], None, self.devices, place)
+        before = self.at_trigger[self.transfer.address] & 1 == 1
+        if self.transfer.attached and not before:
+            self.note('burst, attached since the trigger')
+        if before and not self.transfer.attached:
+            self.note('burst, detached since the trigger')
+
+    def data_place(self):
+        """The place of the open write's data word."""
+        return sum(1 for word in self.burst_words()[:self.transfer.place] if not word & 1)
+
+    def note_burst_send(self):
+        place = self.data_place()
+        self.note('burst, bytes of data word %d' % place)
+        if place != self.transfer.place:
+            self.note('burst, data word and command at different places')
+        if self.empty_write_before:
+            self.note('burst, data word passed over by a write without bytes')
+        self.note('burst byte sent, SDO ' + ('not empty' if self.level(SDO) else 'empty'))
+
+    def finish_in_burst(self, code):
+        transfer = self.transfer
+        place = transfer.place
+        if transfer.read:
+            self.note('burst, read of %d, %d received' % (transfer.length, transfer.moved))
+            self.written.add(sum(word & 1 for word in self.burst_words()[:place]))
+        elif code == 0:
+            self.note('burst, write of %d, all sent' % transfer.length)
+        if not transfer.read and not transfer.moved:
+            self.empty_write_before = True
+        for queue in (CMDR, SDI):
+            if self.room(queue) == 0:
+                self.note('burst finish, %s full' % QUEUES[queue])
+        self.open_in_burst(place + 1)
+        self.note('burst, code %d and %s' % (code, 'on' if self.transfer else 'closed'))
+
     # Set-up.
 
     def set_up(self, numbers, number):
         capacities, watermarks, ident = numbers[:5], numbers[5:10], numbers[10]
         if self.transfer:
-            self.note('set-up during a transfer')
+            self.note('set-up in a burst' if self.in_burst() else 'set-up during a transfer')
         if number == 0:
             self.new_bank(capacities)
             self.note_set_up(capacities, watermarks, ident)
@@ -632,14 +873,15 @@ class Counts:
         self.pairs = Counter()
         self.accesses = Counter()
         self.endings = Counter()
+        self.burst_endings = Counter()
         self.situations = Counter()
         self.addresses = Counter()
         self.no_calls = Counter()
         self.ends = Counter()
 
 
-def no_call_name(line):
-    for name, pattern in NO_CALL_PATTERNS:
+def no_call_name(line, patterns):
+    for name, pattern in patterns:
         if pattern.fullmatch(line):
             return name
     return 'other'
@@ -665,11 +907,15 @@ def count_end(data, pattern, counts):
 def count_script(data, answers, test, counts):
     """Pairs the calls of one script with the answers; says whether they pair."""
     pattern = call_pattern(test)
+    no_call_patterns = [(name, re.compile(text)) for name, text in no_calls(test)]
     follower = Follower(counts)
     matches, position = pattern.fullmatch, 0
     for line in script_lines(data):
+        if test and LEND.fullmatch(line):
+            follower.lend(int(line[2:], 16))
+            continue
         if not matches(line):
-            counts.no_calls[no_call_name(line)] += 1
+            counts.no_calls[no_call_name(line, no_call_patterns)] += 1
             continue
         if position == len(answers):
             return False
@@ -697,10 +943,10 @@ def print_pairs(counts, wanted):
         print('%3s' % letter + ''.join('%8s' % cell for cell in cells))
 
 
-def access_rows(counts):
+def access_rows(counts, test):
     """Rows of the access table; the sixteen of an offload memory share one."""
     rows = {}
-    for letter, register, held, number in possible_accesses():
+    for letter, register, held, number in possible_accesses(test):
         name = re.sub(r'(offload \w+) \d+', r'\1 (least of 16)', register)
         count = counts.accesses[letter, register, held, number]
         key = (letter, held, number)
@@ -709,9 +955,9 @@ def access_rows(counts):
     return rows
 
 
-def print_accesses(counts):
+def print_accesses(counts, test):
     print('\nAccesses by register, in reset / released, number:count')
-    for name, row in access_rows(counts).items():
+    for name, row in access_rows(counts, test).items():
         cells = []
         for letter in 'WR':
             for held in (True, False):
@@ -728,6 +974,17 @@ def print_endings(counts):
                                           counts.endings[kind, state, code, 13])
                             for code in allowed)
             least = min(counts.endings[kind, state, code, 14]
+                        for code in range(16) if code not in allowed)
+            print('  %-36s %-15s %-28s %d' % (kind, state, done or '-', least))
+
+
+def print_burst_endings(counts):
+    print('\nEndings in bursts by kind and state, code:done; then the refused codes, least count')
+    for kind, states in BURST_ENDINGS.items():
+        for state, allowed in states.items():
+            done = ' '.join('%d:%d' % (code, counts.burst_endings[kind, state, code, 0])
+                            for code in allowed)
+            least = min(counts.burst_endings[kind, state, code, 14]
                         for code in range(16) if code not in allowed)
             print('  %-36s %-15s %-28s %d' % (kind, state, done or '-', least))
 
@@ -750,13 +1007,16 @@ def missing(counts, pairs, situations, test):
     wanted = {(letter, number) for letter, numbers in pairs.items() for number in numbers}
     names = ['pair %s %d' % pair for pair in sorted(wanted - set(counts.pairs))]
     names += ['not possible: pair %s %d' % pair for pair in sorted(set(counts.pairs) - wanted)]
-    names += different('access', set(possible_accesses()), set(counts.accesses))
-    if not test:
+    names += different('access', set(possible_accesses(test)), set(counts.accesses))
+    if test:
+        names += different('ending in a burst', set(possible_burst_endings()),
+                           set(counts.burst_endings))
+    else:
         names += different('ending', set(possible_endings()), set(counts.endings))
         names += different('address', {(what, address) for what in ADDRESS_USES
                                        for address in range(128)}, set(counts.addresses))
     names += ['situation ' + name for name in situations if not counts.situations[name]]
-    names += ['line ' + name for name, _ in NO_CALLS if not counts.no_calls[name]]
+    names += ['line ' + name for name, _ in no_calls(test) if not counts.no_calls[name]]
     if counts.scripts >= len(ENDS):
         names += ['end ' + name for name in ENDS if not counts.ends[name]]
     return names
@@ -769,15 +1029,17 @@ def different(title, wanted, seen):
 
 def report(counts, test):
     pairs = TEST_PAIRS if test else SESSION_PAIRS
-    situations = TEST_SITUATIONS if test else SESSION_SITUATIONS
+    situations = TEST_SITUATIONS + BURST_SITUATIONS if test else SESSION_SITUATIONS
     print('%d scripts, %d calls, %d lines that are no calls\n'
           % (counts.scripts, counts.calls, sum(counts.no_calls.values())))
     print_pairs(counts, pairs)
-    print_accesses(counts)
+    print_accesses(counts, test)
     print_endings(counts)
+    if test:
+        print_burst_endings(counts)
     print_counted('Situations:', situations, counts.situations)
     print_addresses(counts)
-    print_counted('Lines that are no calls:', [name for name, _ in NO_CALLS] + ['other'],
+    print_counted('Lines that are no calls:', [name for name, _ in no_calls(test)] + ['other'],
                   counts.no_calls)
     print_counted('Ends of scripts:', ENDS, counts.ends)
     names = missing(counts, pairs, situations, test)

@@ -1,7 +1,7 @@
 #!/usr/bin/env python3
-"""Puts one fault into the answers to a session script.
+"""Puts one fault into the answers to a script.
 
-    damage.py SCRIPT ANSWERS OUTPUT
+    damage.py [--test] SCRIPT ANSWERS OUTPUT
 
 Of the CMDR reads answered 0 the middle one gets another sync. OUTPUT gets the
 answers; the script's line of that read is printed. Exit status 1 if there is
@@ -22,10 +22,11 @@ def is_receipt(call, answer):
 
 
 def main():
-    if len(sys.argv) != 4:
-        sys.exit('usage: damage.py SCRIPT ANSWERS OUTPUT')
-    calls = call_lines(read_file(sys.argv[1]), False)
-    answers = read_file(sys.argv[2]).splitlines()
+    paths = [word for word in sys.argv[1:] if word != '--test']
+    if len(paths) != 3:
+        sys.exit('usage: damage.py [--test] SCRIPT ANSWERS OUTPUT')
+    calls = call_lines(read_file(paths[0]), '--test' in sys.argv[1:])
+    answers = read_file(paths[1]).splitlines()
     found = [place for place, ((_, call), answer) in enumerate(zip(calls, answers))
              if is_receipt(call, answer)]
     if not found:
@@ -33,7 +34,7 @@ def main():
     place = found[len(found) // 2]
     value = int(answers[place][:8], 16) ^ 1
     answers[place] = b'%08x 00' % value
-    with open(sys.argv[3], 'wb') as file:
+    with open(paths[2], 'wb') as file:
         file.write(b''.join(answer + b'\n' for answer in answers))
     print(calls[place][0])
 

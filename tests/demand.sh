@@ -1,5 +1,6 @@
 #!/bin/sh
-# Tries the checker of demand 3 on generated sessions.
+# Tries the checker of demand 3 on generated sessions, and on generated scripts with
+# set-ups and bursts.
 #
 #   demand.sh REFERENCE LINES
 #
@@ -25,27 +26,29 @@ trap 'exit 1' HUP INT TERM
 
 # fail TEXT
 fail() {
-    echo "seed $seed: $1" >&2
+    echo "seed $seed $mode: $1" >&2
     cat "$work/report" >&2
     exit 1
 }
 
-# expect STATUS VERDICT ANSWERS: judges the answers to the script.
+# expect STATUS VERDICT ANSWERS: judges the answers to the script, in the mode.
 expect() {
     status=0
-    "$reference" demand "$work/script" "$3" >"$work/report" 2>"$work/error" || status=$?
+    "$reference" demand "$work/script" "$3" $mode >"$work/report" 2>"$work/error" || status=$?
     verdict=$(tail -n 1 "$work/report")
     if [ "$status" -ne "$1" ] || [ "$verdict" != "$2" ]; then
         fail "expected '$2' with status $1, got '$verdict' with status $status"
     fi
 }
 
-for seed in $SEEDS; do
-    python3 -B "$here/generate.py" "$seed" "$lines" >"$work/script"
-    "$reference" <"$work/script" >"$work/answers"
+# try_seed: one seed in one mode, `test` or none.
+try_seed() {
+    option=${mode:+--$mode}
+    python3 -B "$here/generate.py" "$seed" "$lines" $option >"$work/script"
+    "$reference" $mode <"$work/script" >"$work/answers"
     expect 0 kept "$work/answers"
 
-    line=$(python3 -B "$here/damage.py" "$work/script" "$work/answers" "$work/damaged")
+    line=$(python3 -B "$here/damage.py" $option "$work/script" "$work/answers" "$work/damaged")
     expect 1 broken "$work/damaged"
     grep -q "^broken: $CLAUSE: line $line: " "$work/report" ||
         fail "the receipt read damaged on line $line is not reported"
@@ -55,5 +58,11 @@ for seed in $SEEDS; do
     sed '$d' "$work/answers" >"$work/short"
     expect 2 "" "$work/short"
     [ -s "$work/error" ] || fail "a missing answer gives no message"
+}
+
+for seed in $SEEDS; do
+    for mode in "" test; do
+        try_seed
+    done
 done
 echo "demand 3: kept for seeds $SEEDS of $lines calls, broken with a damaged receipt read"

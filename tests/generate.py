@@ -5,8 +5,8 @@
 
 The script goes to standard output. It has exactly LINES calls; lines that are
 no calls come on top. The same arguments give the same bytes. With --test the
-script also has set-up lines (B and eleven numbers). docs/GENERATOR.md gives the
-rule.
+script also has set-up lines (B and eleven numbers) and the lines of offload
+bursts (G, O and a count, P and a place). docs/GENERATOR.md gives the rule.
 """
 
 import sys
@@ -25,7 +25,8 @@ CMD_ROOM, CMDR_LEVEL, SDO_ROOM, SDI_LEVEL, IBI_LEVEL = 0x0c0, 0x0c4, 0x0c8, 0x0c
 CMD_WORD, CMDR_WORD, SDO_WORD, SDI_WORD, IBI_WORD = 0x0d4, 0x0d8, 0x0dc, 0x0e0, 0x0e4
 FIFO_STATUS, OPS, IBI_CONFIG, DEV_CHAR = 0x0e8, 0x100, 0x140, 0x180
 
-OFFLOAD = list(range(0x2c0, 0x340, 4))
+BURST_COMMANDS, BURST_DATA = 0x2c0, 0x300
+OFFLOAD = list(range(BURST_COMMANDS, 0x340, 4))
 MAPPED = ([0x000, ID, SCRATCH, ENABLE, IRQ_MASK, IRQ_PENDING, IRQ_SOURCE]
           + list(range(0x0c0, 0x0ec, 4)) + [OPS, IBI_CONFIG, DEV_CHAR] + OFFLOAD)
 # Registers whose read changes nothing and shows the state.
@@ -46,6 +47,9 @@ PRIVATE_KINDS = [(0, 0, header, read) for header in (0, 1) for read in (0, 1)]
 CCC_KINDS = [(1, direct, header, read)
              for direct in (0, 1) for header in (0, 1) for read in (0, 1)]
 ENTDAA_CODE = 0x07
+
+# Most commands of a burst, the longest that it carries, words of the output.
+BURST_LENGTH, CARRIED_LENGTH, OUTPUT_WORDS = 15, 4, 16
 
 SESSION_CAPACITIES = [4, 4, 4, 4, 4]
 LEAST_CAPACITIES = [2, 1, 1, 2, 1]
@@ -80,9 +84,9 @@ class Source:
 
 
 class Transfer:
-    """The transfer that is probably open."""
+    """The transfer that is probably open; `place` is that of its command in a burst."""
 
-    def __init__(self, first, second, attached, goal):
+    def __init__(self, first, second, attached, goal, place=None):
         ccc = second is not None
         self.entdaa = ccc and second & 0xff == ENTDAA_CODE
         self.ccc = ccc
@@ -97,6 +101,7 @@ class Transfer:
         self.request_open = False
         self.request_made = False
         self.goal = goal
+        self.place = place
 
     def endings(self):
         """The codes that probably end it."""
@@ -117,6 +122,11 @@ class Transfer:
         return self.moved == 0 and not self.broadcast
 
 
+def carried(word):
+    """Whether a burst carries the command."""
+    return not word >> 22 & 1 and word >> 8 & 0xfff <= CARRIED_LENGTH
+
+
 class Guess:
     """What the script has probably reached. It only steers the choice of lines;
     no answer is judged by it."""
@@ -125,6 +135,8 @@ class Guess:
         self.capacities = capacities
         self.devices = [0] * 128
         self.offload = 0
+        self.offload_length = 0
+        self.offload_commands = [0] * 16
         self.hold()
 
     def level(self, queue):
@@ -138,6 +150,8 @@ class Guess:
         self.transfer = None
 
     def write(self, offset, value):
+        if self.in_burst() and (offset == OPS or offset >= BURST_COMMANDS):
+            return
         if offset == CMD_WORD:
             if not self.held and len(self.cmd) < self.capacities[CMD]:
                 self.cmd.append(value)
@@ -153,6 +167,9 @@ class Guess:
                 self.devices[value >> 9 & 0x7f] = value & 0xe
         elif offset == OPS:
             self.offload = value & 1
+            self.offload_length = value >> 1 & 0xf
+        elif offset % 4 == 0 and BURST_COMMANDS <= offset < BURST_DATA:
+            self.offload_commands[(offset - BURST_COMMANDS) // 4] = value
 
     def read(self, offset):
         if offset == CMDR_WORD:
@@ -186,6 +203,29 @@ class Guess:
         attached = bool(self.devices[command[0] >> 1 & 0x7f] & 2)
         self.transfer = Transfer(*command, attached, goal)
 
+    def in_burst(self):
+        return self.transfer is not None and self.transfer.place is not None
+
+    def burst_words(self):
+        return self.offload_commands[:self.offload_length]
+
+    def burst_reads(self):
+        return sum(word & 1 for word in self.burst_words())
+
+    def trigger(self, lent):
+        words = self.burst_words()
+        refused = self.held or self.transfer or not self.offload or not words
+        if not refused and all(map(carried, words)) and lent >= self.burst_reads():
+            self.open_in_burst(0)
+
+    def open_in_burst(self, place):
+        """The transfer at that place of the burst; its goal is still to be set."""
+        self.transfer = None
+        if place < self.offload_length:
+            word = self.offload_commands[place]
+            attached = bool(self.devices[word >> 1 & 0x7f] & 2)
+            self.transfer = Transfer(word, None, attached, None, place)
+
     def moving(self):
         """The open transfer, if a byte may still move."""
         transfer = self.transfer
@@ -197,7 +237,7 @@ class Guess:
         transfer = self.moving()
         if not transfer or not transfer.write:
             return
-        if transfer.moved % 4 == 0:
+        if transfer.moved % 4 == 0 and transfer.place is None:
             if not self.sdo:
                 return
             self.sdo.popleft()
@@ -207,7 +247,7 @@ class Guess:
         transfer = self.moving()
         if not transfer or not transfer.read:
             return
-        if transfer.moved % 4 == 3:
+        if transfer.moved % 4 == 3 and transfer.place is None:
             if self.sdi == self.capacities[SDI]:
                 return
             self.sdi += 1
@@ -216,6 +256,9 @@ class Guess:
     def finish(self, code):
         transfer = self.transfer
         if not transfer or code not in transfer.endings():
+            return
+        if transfer.place is not None:
+            self.open_in_burst(transfer.place + 1)
             return
         part = 1 if transfer.read and transfer.moved % 4 else 0
         if self.cmdr == self.capacities[CMDR] or self.sdi + part > self.capacities[SDI]:
@@ -249,14 +292,18 @@ HEX_FORMS = [(b'%04x', b'%08x', b'%02x'), (b'%04x', b'%08x', b'%02x'), (b'%x', b
              (b'%04X', b'%08X', b'%02X'), (b'%X', b'%X', b'%X'), (b'%03x', b'%07x', b'%x'),
              (b'%04x', b'%x', b'%02X'), (b'%x', b'%08X', b'%02x')]
 FIELDS = {b'W': 'ov', b'R': 'o', b'S': '', b'T': '', b'X': 'b', b'F': 'b', b'I': 'bb',
-          b'D': 'vv', b'A': '', b'B': 'v' * 11}
+          b'D': 'vv', b'A': '', b'B': 'v' * 11, b'G': '', b'O': 'b', b'P': 'd'}
 LETTERS = [b'W', b'R', b'S', b'T', b'X', b'F', b'I', b'D', b'A']
-WIDTHS = {'o': 4, 'v': 8, 'b': 2}
+TEST_LETTERS = LETTERS + [b'G', b'O', b'P']
+# Most digits of an offset, a value or word, a byte, a digit.
+WIDTHS = {'o': 4, 'v': 8, 'b': 2, 'd': 1}
 
 
 def line_forms(letter):
-    places = ['ovb'.index(field) for field in FIELDS[letter]]
-    return [b' '.join([letter] + [form[place] for place in places]) for form in HEX_FORMS]
+    """A digit has the form of a byte without a leading 0."""
+    return [b' '.join([letter] + [form['ovb'.index(field)] if field != 'd'
+                                  else form[2].replace(b'02', b'') for field in FIELDS[letter]])
+            for form in HEX_FORMS]
 
 
 FORMS = {letter: line_forms(letter) for letter in FIELDS}
@@ -361,6 +408,7 @@ class Script:
         self.size = 0
         self.guess = Guess(SESSION_CAPACITIES)
         self.test = False
+        self.lent = 0
 
     # Lines.
 
@@ -401,14 +449,20 @@ class Script:
 
     def no_call(self):
         source = self.source
-        letter = source.pick(LETTERS)
+        letter = source.pick(TEST_LETTERS if self.test else LETTERS)
         text = self.text(letter, self.any_values(letter))
         if source.one_in(LONG_SHARE):
             self.put(long_line(text, source))
-        elif not self.test and source.one_in(30):
-            self.put(SESSION_SET_UP)
+        elif source.one_in(30):
+            self.put(self.well_formed_no_call())
         else:
             self.put(source.pick(FAULTS)(text, source))
+
+    def well_formed_no_call(self):
+        """A set-up in a session; with --test more words lent than there are."""
+        if not self.test:
+            return SESSION_SET_UP
+        return self.text(b'O', (OUTPUT_WORDS + 1 + self.source.below(255 - OUTPUT_WORDS),))
 
     def end(self, seed):
         """The last line: with a newline, or a call or another line without."""
@@ -428,39 +482,67 @@ class Script:
         self.call(b'R', offset)
         self.guess.read(offset)
 
-    def start(self):
-        self.call(b'S')
-        self.guess.start(self.goal())
+    def short(self):
+        """A burst is open and its reads need a longer output: events are refused."""
+        return self.guess.in_burst() and self.lent < self.guess.burst_reads()
 
-    def goal(self):
+    def event(self, letter, *values):
+        """Says whether the output lets the event through."""
+        self.call(letter, *values)
+        return not self.short()
+
+    def start(self):
+        if self.event(b'S'):
+            command = self.guess.waiting()
+            self.guess.start(self.goal(command[0] >> 8 & 0xfff if command else 0))
+
+    def goal(self, length):
         """How many bytes move before an ending is tried."""
-        command = self.guess.waiting()
-        length = command[0] >> 8 & 0xfff if command else 0
         return self.source.pick([0, length, length, self.source.below(length + 1)])
 
+    def burst_goal(self):
+        """For a transfer of a burst that has just opened."""
+        transfer = self.guess.transfer
+        if transfer and transfer.goal is None:
+            transfer.goal = self.goal(transfer.length)
+
     def send(self):
-        self.call(b'T')
-        self.guess.send()
+        if self.event(b'T'):
+            self.guess.send()
 
     def receive(self):
-        self.call(b'X', self.source.below(256))
-        self.guess.receive()
+        if self.event(b'X', self.source.below(256)):
+            self.guess.receive()
 
     def finish(self, code):
-        self.call(b'F', code)
-        self.guess.finish(code)
+        if self.event(b'F', code):
+            self.guess.finish(code)
+            self.burst_goal()
 
     def interrupt(self, address):
-        self.call(b'I', address, self.source.below(256))
-        self.guess.interrupt()
+        if self.event(b'I', address, self.source.below(256)):
+            self.guess.interrupt()
 
     def address_request(self):
-        self.call(b'D', self.source.word(), self.source.word())
-        self.guess.address_request()
+        if self.event(b'D', self.source.word(), self.source.word()):
+            self.guess.address_request()
 
     def address_take(self):
-        self.call(b'A')
-        self.guess.address_take()
+        if self.event(b'A'):
+            self.guess.address_take()
+
+    def trigger(self):
+        if self.event(b'G'):
+            self.guess.trigger(self.lent)
+            self.burst_goal()
+
+    def lend(self, count):
+        """Has no answer and so is not counted."""
+        self.put(self.text(b'O', (count,)))
+        self.lent = count
+
+    def show_output(self, place):
+        self.call(b'P', place)
 
 
 def weighted(weights):
@@ -484,6 +566,13 @@ IDLE_TABLES = [weighted({**IDLE_STEPS, 'drain': drain}) for drain in MOOD_DRAINS
 OPEN_TABLES = [weighted({**OPEN_STEPS, 'drain': drain}) for drain in MOOD_DRAINS]
 HELD_TABLE = weighted(HELD_STEPS)
 MOOD_STEPS = 120
+# Steps of bursts, for --test.
+BURST_HELD_STEPS = {'trigger': 3, 'lend': 1, 'output': 1}
+BURST_IDLE_STEPS = {'burst': 30, 'trigger': 8, 'lend': 3, 'output': 6}
+BURST_OPEN_STEPS = {'trigger': 4, 'lend': 4, 'output': 4, 'locked_write': 5}
+TEST_IDLE_TABLES = [table + weighted(BURST_IDLE_STEPS) for table in IDLE_TABLES]
+TEST_OPEN_TABLES = [table + weighted(BURST_OPEN_STEPS) for table in OPEN_TABLES]
+TEST_HELD_TABLE = HELD_TABLE + weighted(BURST_HELD_STEPS)
 
 COMMAND_KINDS = ['private'] * 6 + ['ccc'] * 5 + ['entdaa'] * 5 + ['any']
 
@@ -497,7 +586,7 @@ class Walk:
         self.seed = seed
         self.test = test
         self.mood = 0
-        self.faults = 0
+        self.faults = seed
         self.long_transfers = seed
         self.last_device = 0
         script.test = test
@@ -537,6 +626,10 @@ class Walk:
             self.hold()
             self.look_back()
             self.steps(ROUND_CALLS // 2)
+            if number % 2:
+                # The next set-up then comes in a transfer.
+                self.fresh()
+                (self.burst if number % 4 == 1 else self.start_assignment)()
 
     def scenario(self, number):
         scenarios = [self.assignments, self.rings, self.syncs, self.endings, self.long_transfer,
@@ -545,6 +638,8 @@ class Walk:
             self.rings()
             scenarios = [self.assignments, self.syncs, self.endings, self.long_transfer]
         scenarios[number % len(scenarios)]()
+        if self.test:
+            self.bursts(number)
         if number % 6 == 0:
             self.no_call_tour()
 
@@ -559,12 +654,14 @@ class Walk:
             self.step()
 
     def step(self):
+        if self.test and self.script.short() and self.source.one_in(8):
+            self.lend()
         if self.guess.held:
-            table = HELD_TABLE
+            table = TEST_HELD_TABLE if self.test else HELD_TABLE
         elif self.guess.transfer:
-            table = OPEN_TABLES[self.mood]
+            table = (TEST_OPEN_TABLES if self.test else OPEN_TABLES)[self.mood]
         else:
-            table = IDLE_TABLES[self.mood]
+            table = (TEST_IDLE_TABLES if self.test else IDLE_TABLES)[self.mood]
         getattr(self, self.source.pick(table))()
 
     # Set-ups, for --test.
@@ -579,13 +676,15 @@ class Walk:
             sizes = [self.source.pick(SMALL_CAPACITIES) for _ in range(5)]
         return [size if size >= least else 4 for size, least in zip(sizes, LEAST_CAPACITIES)]
 
-    def watermarks(self, capacities):
-        return [self.source.pick([0, size, size, 1, size - 1, size // 2]) for size in capacities]
+    def watermarks(self, capacities, turn):
+        return [(0, size, 1, size, size - 1, size // 2)[(turn + queue) % 6]
+                for queue, size in enumerate(capacities)]
 
     def set_up(self, number):
         capacities = self.capacities(number)
-        ident = self.source.pick([0, 255, 255, self.source.below(256)])
-        self.script.put_call(b'B', (*capacities, *self.watermarks(capacities), ident))
+        ident = (0, 255, self.source.below(256))[number % 3]
+        watermarks = self.watermarks(capacities, number // 2 + self.seed)
+        self.script.put_call(b'B', (*capacities, *watermarks, ident))
         self.script.guess = Guess(capacities)
 
     def refused_set_ups(self):
@@ -594,7 +693,7 @@ class Walk:
             self.script.put_call(b'B', tuple(self.refused_numbers()))
             self.script.guess = Guess([0] * 5)
             for _ in self.times(8):
-                letter = self.source.pick(LETTERS)
+                letter = self.source.pick(LETTERS + [b'G', b'P'])
                 self.script.call(letter, *self.script.any_values(letter))
             self.calls_after_refusal()
 
@@ -617,7 +716,8 @@ class Walk:
     def refused_numbers(self):
         """Eleven numbers, one of them out of range, each in its turn."""
         sizes = [self.source.pick(TEST_CAPACITIES[1:]) for _ in range(5)]
-        numbers = sizes + self.watermarks(sizes) + [self.source.below(256)]
+        watermarks = self.watermarks(sizes, self.source.below(6))
+        numbers = sizes + watermarks + [self.source.below(256)]
         place = self.faults % 11
         high = self.faults // 11 % 2 == 0
         self.faults += 1
@@ -668,9 +768,10 @@ class Walk:
         source, script = self.source, self.script
         code = source.pick([source.below(16), source.below(256), 15, 16])
         address = source.pick([source.below(128), source.below(256), 127, 128])
-        source.pick([script.start, script.send, script.receive, script.address_request,
-                     script.address_take, lambda: script.finish(code),
-                     lambda: script.interrupt(address)])()
+        events = [script.start, script.send, script.receive, script.address_request,
+                  script.address_take, lambda: script.finish(code),
+                  lambda: script.interrupt(address)]
+        source.pick(events + [script.trigger] if self.test else events)()
 
     def device(self):
         source = self.source
@@ -854,8 +955,9 @@ class Walk:
     def other_event(self):
         """An event that is probably refused while a transfer is open."""
         script, address = self.script, self.source.pick(ADDRESSES)
-        self.source.pick([script.start, script.send, script.receive, script.address_request,
-                          script.address_take, lambda: script.interrupt(address)])()
+        events = [script.start, script.send, script.receive, script.address_request,
+                  script.address_take, lambda: script.interrupt(address)]
+        self.source.pick(events + [script.trigger] if self.test else events)()
 
     def detach(self):
         """Changes the flags of the transfer's own device; a byte after that."""
@@ -869,6 +971,72 @@ class Walk:
             self.script.receive()
         if not self.source.one_in(3):
             self.script.write(DEV_CHAR, transfer.address << 9 | 0x100 | flags ^ 2)
+
+    # Steps of bursts, for --test.
+
+    def trigger(self):
+        self.script.trigger()
+
+    def lend(self):
+        """An output that fits the offload words, is one word short, or any."""
+        reads = self.guess.burst_reads()
+        enough = reads + self.source.below(OUTPUT_WORDS + 1 - reads)
+        if self.script.short() and not self.source.one_in(4):
+            self.script.lend(enough)
+        else:
+            self.script.lend(self.source.pick([reads, reads, enough, max(reads - 1, 0),
+                                               OUTPUT_WORDS, self.source.below(17)]))
+
+    def output(self):
+        for _ in self.times(3):
+            self.script.show_output(self.source.below(OUTPUT_WORDS))
+
+    def locked_write(self):
+        """A write that is dropped if the open transfer is a burst's."""
+        offset = self.source.pick([OPS] * 8 + OFFLOAD)
+        self.script.write(offset, self.source.word() & 0xfffffffe if offset == OPS
+                          else self.burst_command())
+        if self.source.one_in(2):
+            self.script.read(offset)
+
+    def burst_command(self):
+        """A command that a burst mostly carries."""
+        source = self.source
+        length, address = source.below(CARRIED_LENGTH + 1), source.pick(ADDRESSES)
+        if not source.one_in(40):
+            return self.command_words(source.pick(PRIVATE_KINDS), length, address)[0]
+        return self.uncarried_command(length, address)
+
+    def uncarried_command(self, length, address):
+        """A CCC, or a length that is too great, at times in its upper bits only."""
+        source = self.source
+        if source.one_in(2):
+            return self.command_words(source.pick(CCC_KINDS), length, address)[0]
+        length = source.pick([5, 5, 8, 0x104, 0x400, 0xfff])
+        return self.command_words(source.pick(PRIVATE_KINDS), length, address)[0]
+
+    def burst(self):
+        """Loads some offload words, sets mode and length, lends and triggers."""
+        source = self.source
+        count = source.pick([1, 1, 2, 2, 3, 3, 4, 5, 6, source.below(16)])
+        self.load_burst([self.burst_command() if source.one_in(3) or not carried(word) else word
+                         for word in self.guess.offload_commands[:count]])
+        if source.one_in(16):
+            self.script.write(OPS, count << 1)
+        self.lend()
+        self.script.trigger()
+        if self.script.lent < self.guess.burst_reads():
+            self.lend()
+            self.script.trigger()
+
+    def load_burst(self, words):
+        """Commands that are not there yet, some data words, mode 1 and the length."""
+        for place, word in enumerate(words):
+            if self.guess.offload_commands[place] != word:
+                self.script.write(BURST_COMMANDS + 4 * place, word)
+        for _ in self.times(4):
+            self.script.write(BURST_DATA + 4 * self.source.below(16), self.source.word())
+        self.script.write(OPS, self.source.below(4) << 5 | len(words) << 1 | 1)
 
     # Scenarios.
 
@@ -1036,7 +1204,7 @@ class Walk:
 
     def no_call_tour(self):
         """Each fault on a line of each letter, and lines at the edges of buffers."""
-        for letter in LETTERS:
+        for letter in TEST_LETTERS if self.test else LETTERS:
             for fault in FAULTS:
                 text = self.script.text(letter, self.script.any_values(letter))
                 self.script.put(fault(text, self.source))
@@ -1267,13 +1435,14 @@ class Walk:
         return address
 
     def move_bytes(self, read, count):
+        """Bytes of a burst need no queue."""
         for _ in range(count):
             if read:
-                if self.guess.sdi == self.guess.capacities[SDI]:
+                if self.guess.sdi == self.guess.capacities[SDI] and not self.guess.in_burst():
                     self.script.read(SDI_WORD)
                 self.script.receive()
             else:
-                if not self.guess.sdo:
+                if not self.guess.sdo and not self.guess.in_burst():
                     self.script.write(SDO_WORD, self.source.word())
                 self.script.send()
 
@@ -1287,6 +1456,240 @@ class Walk:
         if requests == 'taken':
             self.script.write(SDO_WORD, 0x10000000)
             self.script.address_take()
+
+    # Bursts, for --test.
+
+    def bursts(self, number):
+        """Refused triggers; bursts of each length; each ending; short outputs; locked
+        registers; full queues; resets."""
+        self.refused_triggers()
+        self.burst_lengths()
+        header, read = divmod((number + self.seed) % 4, 2)
+        for attached in (1, 0):
+            self.burst_endings(header, read, attached)
+        self.short_outputs()
+        self.locked_registers()
+        self.crowded_burst()
+        self.broken_bursts()
+
+    def refused_triggers(self):
+        """Offload words and outputs with several faults at once, in reset, with a
+        direct transfer open, and idle in both modes."""
+        address = self.fresh()
+        self.script.write(ENABLE, 1)
+        self.trigger_faults(address)
+        self.script.write(ENABLE, 0)
+        self.script.write(OPS, 0)
+        self.script.write(CMD_WORD, self.empty_write(address))
+        self.script.start()
+        self.trigger_faults(address)
+        self.script.finish(0)
+        self.trigger_faults(address)
+        for _ in range(3):
+            self.uncarried_at_a_place(address)
+
+    def trigger_faults(self, address):
+        """With no command, one not carried, reads and too short an output."""
+        read = 1 << 8 | address << 1 | 1
+        self.script.write(BURST_COMMANDS, read)
+        self.script.write(BURST_COMMANDS + 4, read)
+        self.script.write(BURST_COMMANDS + 8, self.uncarried_command(1, address) | 1)
+        for count in (0, 3, 2):
+            for mode in (0, 1):
+                self.script.write(OPS, count << 1 | mode)
+                for lent in (1, 0):
+                    self.script.lend(lent)
+                    self.script.trigger()
+
+    def uncarried_at_a_place(self, address):
+        """Not carried at one place of the burst, then just past it."""
+        place = self.source.below(BURST_LENGTH)
+        words = [address << 1 | self.source.below(2)] * place
+        self.load_burst(words + [self.uncarried_command(1, address)])
+        self.script.lend(OUTPUT_WORDS)
+        self.script.trigger()
+        self.script.write(OPS, place << 1 | 1)
+        self.script.trigger()
+        self.play_burst()
+
+    def burst_lengths(self):
+        """A burst of each length, with any commands, over an output that fits or is
+        longer; the device of the next command is changed at times."""
+        self.fresh()
+        for address in ADDRESSES:
+            self.script.write(DEV_CHAR, address << 9 | self.source.pick([0x10e, 0x102, 0x10c]))
+        self.load_burst([self.carried_command() for _ in range(BURST_LENGTH)])
+        first = self.source.below(BURST_LENGTH)
+        for step in range(BURST_LENGTH):
+            self.script.write(OPS, (1 + (first + step) % BURST_LENGTH) << 1 | 1)
+            reads = self.guess.burst_reads()
+            if reads:
+                self.script.lend(reads - 1)
+                self.script.trigger()
+            self.script.lend(self.source.pick([reads, min(reads + 1, OUTPUT_WORDS), OUTPUT_WORDS]))
+            self.script.trigger()
+            self.play_burst()
+            self.read_outputs()
+
+    def carried_command(self):
+        return self.command_words(self.source.pick(PRIVATE_KINDS), self.source.below(5),
+                                  self.source.pick(ADDRESSES))[0]
+
+    def read_outputs(self):
+        for place in range(OUTPUT_WORDS):
+            self.script.show_output(place)
+
+    def play_burst(self):
+        """Goes on to the end of the burst."""
+        while self.guess.in_burst():
+            transfer = self.guess.transfer
+            if self.source.one_in(3):
+                self.change_next_device()
+            if self.source.one_in(8):
+                self.other_event()
+            self.move_bytes(transfer.read, transfer.goal if transfer.attached else 0)
+            if not transfer.endings():
+                self.move_bytes(transfer.read, transfer.length - transfer.moved)
+            self.script.finish(self.source.pick(transfer.endings()))
+
+    def change_next_device(self):
+        """The device of this command or of the next one, attached or not."""
+        words, place = self.guess.burst_words(), self.guess.transfer.place
+        word = words[min(place + self.source.below(2), len(words) - 1)]
+        self.script.write(DEV_CHAR, (word >> 1 & 0x7f) << 9 | self.source.pick([0x10e, 0x10c]))
+
+    def burst_endings(self, header, read, attached):
+        """One kind of command: each count of bytes with each code, those not allowed
+        first."""
+        address = self.fresh(0x10e if attached else 0x10c)
+        cases = [(length, moved) for length in range(CARRIED_LENGTH + 1)
+                 for moved in range(length + 1) if attached or moved == 0]
+        for count in range(3):
+            self.ending_burst(header << 21 | address << 1 | read, cases, count)
+
+    def ending_burst(self, kind, cases, count):
+        """Ends with the allowed code of that index, if there is one."""
+        first = self.source.below(len(cases))
+        cases = cases[first:] + cases[:first]
+        self.load_burst([kind | length << 8 for length, _ in cases])
+        self.script.lend(self.guess.burst_reads())
+        self.script.trigger()
+        for length, moved in cases:
+            transfer = self.guess.transfer
+            self.move_bytes(transfer.read, moved)
+            if count == 0:
+                self.wrong_endings()
+            if not transfer.endings():
+                self.move_bytes(transfer.read, length - moved)
+            endings = transfer.endings()
+            self.script.finish(endings[count % len(endings)])
+        self.read_outputs()
+
+    def short_outputs(self):
+        """Each event at each command of a burst with an output one word short."""
+        address = self.fresh()
+        other = (address + 1) % 128
+        self.script.write(DEV_CHAR, other << 9 | 0x10c)
+        length = 1 + self.source.below(CARRIED_LENGTH)
+        self.load_burst([length << 8 | device << 1 | read
+                         for device in (address, other) for read in (1, 0)])
+        reads = self.guess.burst_reads()
+        self.script.lend(reads)
+        self.script.trigger()
+        while self.guess.in_burst():
+            transfer = self.guess.transfer
+            self.every_event_short(reads, transfer)
+            self.move_bytes(transfer.read, length if transfer.attached else 0)
+            self.every_event_short(reads, transfer)
+            self.script.finish(0 if transfer.attached else 8)
+
+    def every_event_short(self, reads, transfer):
+        source, script = self.source, self.script
+        script.lend(source.pick([reads - 1, 0]))
+        for event in (script.start, script.send, script.receive, script.trigger,
+                      script.address_request, script.address_take):
+            event()
+        for code in transfer.endings() + [15, 16]:
+            script.finish(code)
+        script.interrupt(source.pick(ADDRESSES))
+        script.interrupt(128 + source.below(128))
+        script.lend(reads)
+
+    def locked_registers(self):
+        """Writes to each locked register in a burst; reads of them after it."""
+        address = self.fresh()
+        words = [address << 1 | 2 << 8, address << 1 | 1 << 8, address << 1 | 4 << 8]
+        self.load_burst(words)
+        self.script.trigger()
+        offsets = [OPS] + OFFLOAD
+        while offsets:
+            offset = offsets.pop(self.source.below(len(offsets)))
+            self.script.write(offset, self.source.word())
+            if self.source.one_in(4):
+                self.script.read(offset)
+                self.script.write(offset + 1 + self.source.below(3), self.source.word())
+        self.play_burst()
+        for offset in [OPS] + OFFLOAD:
+            if self.source.one_in(4):
+                self.script.read(offset)
+
+    def crowded_burst(self):
+        """A burst with full queues leaves them as they are; direct transfers before
+        and after it."""
+        capacities = self.guess.capacities
+        if max(capacities[CMDR], capacities[SDI], capacities[SDO]) > 8:
+            return
+        address = self.fill_receipts(0x10e)
+        self.script.write(CMD_WORD, 4 * capacities[SDI] << 8 | address << 1 | 1)
+        self.script.read(CMDR_WORD)
+        self.script.start()
+        for _ in range(4 * capacities[SDI]):
+            self.script.receive()
+        self.script.finish(0)
+        for _ in range(capacities[SDO]):
+            self.script.write(SDO_WORD, self.source.word())
+        if self.source.one_in(2):
+            self.script.write(IRQ_PENDING, 0xe0)
+        self.load_burst([length << 8 | address << 1 | read
+                         for read in (1, 0) for length in (4, 1)])
+        self.script.lend(2)
+        self.script.trigger()
+        self.play_burst()
+        for offset in (CMD_ROOM, CMDR_LEVEL, SDO_ROOM, SDI_LEVEL, IRQ_SOURCE, OPS):
+            self.script.read(offset)
+        self.read_outputs()
+        self.script.write(OPS, 0)
+        self.script.write(CMD_WORD, 1 << 8 | address << 1)
+        self.script.start()
+        self.script.send()
+        self.script.finish(0)
+        for offset in (CMDR_WORD, SDI_WORD):
+            self.script.read(offset)
+            self.script.finish(0)
+
+    def broken_bursts(self):
+        """A reset at any place of a burst, with bytes moved."""
+        for read in (0, 1):
+            address = self.fresh()
+            count = 1 + self.source.below(BURST_LENGTH)
+            self.load_burst([4 << 8 | address << 1 | read] * count)
+            self.script.lend(OUTPUT_WORDS)
+            self.script.trigger()
+            for _ in range(self.source.below(count)):
+                self.move_bytes(read, 4)
+                self.script.finish(0)
+            self.move_bytes(read, 1 + self.source.below(4))
+            self.hold()
+            for event in (self.script.trigger, self.script.send, self.script.receive):
+                event()
+            self.script.finish(0)
+            self.script.write(BURST_COMMANDS, 1 << 8 | address << 1 | read)
+            self.release()
+            self.script.finish(0)
+            self.read_outputs()
+            self.script.trigger()
+            self.play_burst()
+            self.read_outputs()
 
 
 def main():

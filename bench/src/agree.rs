@@ -69,7 +69,7 @@ impl Pair {
 
     fn both(&mut self, call: Call) -> Answer {
         let plain = self.plain.step(&mut self.store, call);
-        let reference = self.reference.call(&reference_call(call));
+        let reference = self.reference.call(&reference_call(call), &mut []);
         assert_eq!(plain.value, reference.value, "{call:?}");
         assert_eq!(plain.number, u32::from(reference.number), "{call:?}");
         plain

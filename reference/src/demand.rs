@@ -1,7 +1,9 @@
-//! Checker of demand 3: judges any program's answers to a session script.
+//! Checker of demand 3: judges any program's answers to a session script or to one
+//! with the lines of test mode.
 //!
 //! It reads the script and the answers and nothing else. Of the engine it uses the
-//! types of a call and an answer, which the line parser gives; it runs no model.
+//! types of a call, an answer and the set-up numbers, which the line parser gives; it
+//! runs no model.
 
 mod clause;
 mod command;
@@ -22,9 +24,6 @@ use std::fs::File;
 use std::io::{self, BufRead, BufReader};
 use std::path::Path;
 use stretch::Count;
-
-/// 01, A session: "Its bank has every capacity 4", CMD and CMDR too.
-const CAPACITY: usize = 4;
 
 /// Why the input can't be judged.
 #[derive(Debug)]
@@ -120,14 +119,20 @@ fn parse_answer(line: &[u8]) -> Option<Answer> {
 }
 
 /// Judges the answers to a script.
-pub fn judge(script: impl BufRead, answers: impl BufRead) -> Result<Findings, Unusable> {
+pub fn judge(
+    script: impl BufRead,
+    answers: impl BufRead,
+    mode: Mode,
+) -> Result<Findings, Unusable> {
     let mut script = Lines::new(script, "script");
     let mut answers = Lines::new(answers, "answers");
-    let mut count = Count::default();
+    let mut count = Count::new();
     let mut calls = 0;
     while script.advance()? {
-        // 01: "other lines are skipped": they have no answer.
-        let Some(Request::Call(call)) = parse_line(&script.line, Mode::Session) else {
+        // 01: "other lines are skipped": they have no answer, nor has the line that
+        // lends the output.
+        let request = parse_line(&script.line, mode).filter(Request::has_answer);
+        let Some(request) = request else {
             continue;
         };
         calls += 1;
@@ -135,7 +140,11 @@ pub fn judge(script: impl BufRead, answers: impl BufRead) -> Result<Findings, Un
             let answer = parse_answer(&answers.line).ok_or(Unusable::MalformedAnswer {
                 line: answers.number,
             })?;
-            count.judge_call(script.number, &call, answer);
+            match request {
+                Request::Call(call) => count.judge_call(script.number, &call, answer),
+                Request::SetUp(numbers) => count.set_up(&numbers),
+                Request::Lend(_) | Request::ShowOutput(_) => {}
+            }
         }
     }
     while answers.advance()? {}
@@ -156,6 +165,6 @@ fn open(path: &Path, what: &'static str) -> Result<BufReader<File>, Unusable> {
 }
 
 /// Judges the answers in one file to the script in another.
-pub fn judge_files(script: &Path, answers: &Path) -> Result<Findings, Unusable> {
-    judge(open(script, "script")?, open(answers, "answers")?)
+pub fn judge_files(script: &Path, answers: &Path, mode: Mode) -> Result<Findings, Unusable> {
+    judge(open(script, "script")?, open(answers, "answers")?, mode)
 }

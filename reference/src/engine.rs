@@ -1,7 +1,8 @@
-//! The model: five queues, the register file, one transfer and the bus events.
+//! The model: five queues, the register file, one transfer, the bus events and
+//! offload bursts.
 //!
-//! Comments name the clause they follow: "01" is the scope page, "001" the
-//! register page, "004" the control interface.
+//! Comments name the clause they follow: "01" is the scope page, "02" section 3 of
+//! the change requests, "001" the register page, "004" the control interface.
 
 use std::collections::VecDeque;
 
@@ -45,6 +46,9 @@ const WRONG_PARITY: u8 = 19;
 const NOT_ATTACHED: u8 = 20;
 const NOT_WELL_FORMED: u8 = 21;
 const SETUP_OUT_OF_RANGE: u8 = 23;
+// 02, Refusals.
+const NO_BURST_LENGTH: u8 = 28;
+const NOT_CARRIED: u8 = 29;
 
 /// One call other than set-up.
 #[derive(Clone, Copy, Debug, PartialEq, Eq)]
@@ -58,6 +62,7 @@ pub enum Call {
     InterruptRequest { address: u8, byte: u8 },
     AddressRequest { first: u32, second: u32 },
     AddressTake,
+    Trigger,
 }
 
 /// The eleven set-up numbers, queues in the order CMD CMDR SDO SDI IBI.
@@ -245,6 +250,15 @@ fn is_read_only(register: Register) -> bool {
     )
 }
 
+/// 02: "While a burst is open, writes to OPS and both offload memories are dropped
+/// whole".
+fn is_locked_by_burst(register: Register) -> bool {
+    matches!(
+        register,
+        Register::Ops | Register::OffloadCommand(_) | Register::OffloadData(_)
+    )
+}
+
 /// 01: "The device table holds three flags for each of the 128 device addresses."
 #[derive(Clone, Copy, Debug, Default, PartialEq, Eq)]
 struct Device {
@@ -330,18 +344,34 @@ fn parse_command(first: u32, second: Option<u32>) -> Command {
     }
 }
 
+/// 02: "Only private commands of length at most 4 are carried."
+fn is_carried(word: u32) -> bool {
+    !is_ccc(word) && parse_command(word, None).length <= 4
+}
+
+/// How many of these commands of a burst read.
+fn read_count(commands: &[u32]) -> usize {
+    commands
+        .iter()
+        .filter(|word| parse_command(**word, None).is_read)
+        .count()
+}
+
 /// The open transfer.
 #[derive(Clone, Debug, PartialEq, Eq)]
 struct Transfer {
     command: Command,
+    /// The place of its command in the open burst; none for a direct transfer.
+    burst_place: Option<usize>,
     /// False only for a private transfer or direct CCC whose device was not
-    /// attached at start.
+    /// attached when the transfer opened.
     attached: bool,
     /// Payload bytes moved.
     moved: u32,
-    /// Of the word last taken from SDO, the bytes not yet sent.
+    /// Of the word last taken from SDO, or of the offload data word in a burst, the
+    /// bytes not yet sent.
     left: VecDeque<u8>,
-    /// Bytes received that do not yet fill a word.
+    /// Bytes received that have not gone to SDI; in a burst all of them.
     gathered: Vec<u8>,
 }
 
@@ -480,17 +510,21 @@ impl Bank {
         }
     }
 
-    pub fn call(&mut self, call: &Call) -> Answer {
+    /// `output` is lent to the events. 02: "Read bytes go to a lent output of words".
+    pub fn call(&mut self, call: &Call, output: &mut [u32]) -> Answer {
         match *call {
             Call::Read { offset } => self.read(offset),
             Call::Write { offset, value } => self.write(offset, value),
-            Call::Start => self.start(),
-            Call::Send => self.send(),
-            Call::Receive { byte } => self.receive(byte),
-            Call::Finish { code } => self.finish(code),
-            Call::InterruptRequest { address, byte } => self.interrupt_request(address, byte),
-            Call::AddressRequest { first, second } => self.address_request(first, second),
-            Call::AddressTake => self.address_take(),
+            Call::Start => self.start(output),
+            Call::Send => self.send(output),
+            Call::Receive { byte } => self.receive(byte, output),
+            Call::Finish { code } => self.finish(code, output),
+            Call::InterruptRequest { address, byte } => {
+                self.interrupt_request(address, byte, output)
+            }
+            Call::AddressRequest { first, second } => self.address_request(first, second, output),
+            Call::AddressTake => self.address_take(output),
+            Call::Trigger => self.trigger(output),
         }
     }
 
@@ -500,7 +534,8 @@ impl Bank {
         self.numbers.in_range()
     }
 
-    // Accesses. 01, Numbers: "For accesses: 21, 22, 4, 2, 5, 1, 3."
+    // Accesses. 01, Numbers: "For accesses: 21, 22, 4, 2, 5, 1, 3."; 02 puts 6 after
+    // 4.
 
     pub fn read(&mut self, offset: u16) -> Answer {
         if !self.is_well_formed() {
@@ -615,6 +650,9 @@ impl Bank {
         let Some(register) = register_at(offset) else {
             return refuse(NOT_IN_MAP);
         };
+        if self.burst_place().is_some() && is_locked_by_burst(register) {
+            return refuse(TRANSFER_OPEN);
+        }
         if is_read_only(register) {
             return refuse(READ_ONLY);
         }
@@ -720,13 +758,16 @@ impl Bank {
     }
 
     // Bus events. 01, Numbers: "21 goes first, then 22, then 18, then the order
-    // given at each event."
+    // given at each event."; 02 puts 13 for the output after 18.
 
     /// 01, Start: "5, 6, 8, 9, 15. Takes the whole command; value is its first
     /// word."
-    pub fn start(&mut self) -> Answer {
+    pub fn start(&mut self, output: &[u32]) -> Answer {
         if !self.is_well_formed() {
             return refuse(NOT_WELL_FORMED);
+        }
+        if self.is_output_short(output) {
+            return refuse(NO_ROOM);
         }
         if self.in_reset {
             return refuse(HELD_IN_RESET);
@@ -734,8 +775,7 @@ impl Bank {
         if self.transfer.is_some() {
             return refuse(TRANSFER_OPEN);
         }
-        // OPS bit 0, mode.
-        if self.ops & 1 == 1 {
+        if self.is_in_offload_mode() {
             return refuse(OFFLOAD_MODE);
         }
         let Some((first, second)) = self.waiting_command() else {
@@ -751,6 +791,11 @@ impl Bank {
         }
         self.transfer = Some(self.new_transfer(command));
         done(first)
+    }
+
+    /// OPS "bit 0 mode".
+    fn is_in_offload_mode(&self) -> bool {
+        self.ops & 1 == 1
     }
 
     /// The whole command at the head of CMD. 01, What demand 3 counts: "a word
@@ -776,6 +821,7 @@ impl Bank {
         };
         Transfer {
             command,
+            burst_place: None,
             attached,
             moved: 0,
             left: VecDeque::new(),
@@ -785,10 +831,13 @@ impl Bank {
 
     /// 01, Send a byte: "5, 7, 20, 10 (a read or ENTDAA), 11, 12. A word leaves
     /// SDO with its first byte, and only there can 12 arise; bytes past the
-    /// length are dropped. Value: the byte."
-    pub fn send(&mut self) -> Answer {
+    /// length are dropped. Value: the byte." In a burst the bytes lie ready.
+    pub fn send(&mut self, output: &[u32]) -> Answer {
         if !self.is_well_formed() {
             return refuse(NOT_WELL_FORMED);
+        }
+        if self.is_output_short(output) {
+            return refuse(NO_ROOM);
         }
         if self.in_reset {
             return refuse(HELD_IN_RESET);
@@ -818,9 +867,12 @@ impl Bank {
 
     /// 01, Receive a byte: "5, 7, 20, 10 (a write or ENTDAA), 11, 13. A word goes
     /// to SDI with its fourth byte; 13 only when that push has no room."
-    pub fn receive(&mut self, byte: u8) -> Answer {
+    pub fn receive(&mut self, byte: u8, output: &[u32]) -> Answer {
         if !self.is_well_formed() {
             return refuse(NOT_WELL_FORMED);
+        }
+        if self.is_output_short(output) {
+            return refuse(NO_ROOM);
         }
         if self.in_reset {
             return refuse(HELD_IN_RESET);
@@ -837,7 +889,8 @@ impl Bank {
         if transfer.moved == transfer.command.length {
             return refuse(LENGTH_REACHED);
         }
-        let fills_word = transfer.gathered.len() == 3;
+        // In a burst the bytes wait for the finish.
+        let fills_word = transfer.burst_place.is_none() && transfer.gathered.len() == 3;
         if fills_word && self.sdi.is_full() {
             return refuse(NO_ROOM);
         }
@@ -852,14 +905,19 @@ impl Bank {
 
     /// 01, Finish with a code: "5, 7, 14, 13. A part-filled word is padded with 0
     /// and pushed, then the receipt (the value). 13 if a word to be pushed has no
-    /// room; then nothing is pushed."
-    pub fn finish(&mut self, code: u8) -> Answer {
+    /// room; then nothing is pushed." In a burst, 02: "Read bytes go to a lent output
+    /// of words, one per read command at its finish, padded with 0. Burst transfers
+    /// queue no receipt (the finish's value is 0)"; "an error code doesn't stop it".
+    pub fn finish(&mut self, code: u8, output: &mut [u32]) -> Answer {
         if !self.is_well_formed() {
             return refuse(NOT_WELL_FORMED);
         }
         // 01, number 18: "code above 15".
         if code > 15 {
             return refuse(OUT_OF_RANGE);
+        }
+        if self.is_output_short(output) {
+            return refuse(NO_ROOM);
         }
         if self.in_reset {
             return refuse(HELD_IN_RESET);
@@ -869,6 +927,13 @@ impl Bank {
         };
         if !transfer.may_end_with(code) {
             return refuse(ENDING_NOT_ALLOWED);
+        }
+        if let Some(place) = transfer.burst_place {
+            if transfer.is_read() {
+                output[self.reads_before(place)] = word_of_bytes(&transfer.gathered);
+            }
+            self.transfer = self.burst_transfer(place + 1);
+            return done(0);
         }
         let has_part = !transfer.gathered.is_empty();
         if self.cmdr.is_full() || (has_part && self.sdi.is_full()) {
@@ -894,13 +959,16 @@ impl Bank {
     /// 01, Interrupt request: "5, 6, 16 (listen 0), 17 (enable 0, or not
     /// attached, or may not interrupt), 13. A device that sends no byte is stored
     /// with 0. Value: the entry."
-    pub fn interrupt_request(&mut self, address: u8, byte: u8) -> Answer {
+    pub fn interrupt_request(&mut self, address: u8, byte: u8, output: &[u32]) -> Answer {
         if !self.is_well_formed() {
             return refuse(NOT_WELL_FORMED);
         }
         // 01, number 18: "address above 127".
         if address > 127 {
             return refuse(OUT_OF_RANGE);
+        }
+        if self.is_output_short(output) {
+            return refuse(NO_ROOM);
         }
         if self.in_reset {
             return refuse(HELD_IN_RESET);
@@ -934,9 +1002,12 @@ impl Bank {
 
     /// 01, Address request: "5, 7, 10 (not ENTDAA, or one is open), 13 (SDI room
     /// below 2). Pushes both."
-    pub fn address_request(&mut self, first: u32, second: u32) -> Answer {
+    pub fn address_request(&mut self, first: u32, second: u32, output: &[u32]) -> Answer {
         if !self.is_well_formed() {
             return refuse(NOT_WELL_FORMED);
+        }
+        if self.is_output_short(output) {
+            return refuse(NO_ROOM);
         }
         if self.in_reset {
             return refuse(HELD_IN_RESET);
@@ -972,9 +1043,12 @@ impl Bank {
     /// 01, Address take: "5, 7, 10 (not ENTDAA, or none open), 12. Bits 31:25 are
     /// the address, the value; bits 31:24 together hold an odd number of ones,
     /// else 19."
-    pub fn address_take(&mut self) -> Answer {
+    pub fn address_take(&mut self, output: &[u32]) -> Answer {
         if !self.is_well_formed() {
             return refuse(NOT_WELL_FORMED);
+        }
+        if self.is_output_short(output) {
+            return refuse(NO_ROOM);
         }
         if self.in_reset {
             return refuse(HELD_IN_RESET);
@@ -1003,6 +1077,78 @@ impl Bank {
                 number: WRONG_PARITY,
             }
         }
+    }
+
+    // Offload bursts.
+
+    /// 02, Refusals: "5 and 6 as for start, then 8 when mode is 0, 28 length field 0,
+    /// 29 a command not carried, 13 output shorter than the reads".
+    pub fn trigger(&mut self, output: &[u32]) -> Answer {
+        if !self.is_well_formed() {
+            return refuse(NOT_WELL_FORMED);
+        }
+        if self.is_output_short(output) {
+            return refuse(NO_ROOM);
+        }
+        if self.in_reset {
+            return refuse(HELD_IN_RESET);
+        }
+        if self.transfer.is_some() {
+            return refuse(TRANSFER_OPEN);
+        }
+        if !self.is_in_offload_mode() {
+            return refuse(OFFLOAD_MODE);
+        }
+        let commands = self.burst_commands();
+        if commands.is_empty() {
+            return refuse(NO_BURST_LENGTH);
+        }
+        if !commands.iter().all(|word| is_carried(*word)) {
+            return refuse(NOT_CARRIED);
+        }
+        if output.len() < read_count(commands) {
+            return refuse(NO_ROOM);
+        }
+        self.transfer = self.burst_transfer(0);
+        done(0)
+    }
+
+    /// 02: "the first `offload length` words of the offload commands"; OPS "4:1
+    /// offload length". Locked while a burst is open, so these are its commands.
+    fn burst_commands(&self) -> &[u32] {
+        let length = self.ops >> 1 & 0xf;
+        &self.offload_commands[..length as usize]
+    }
+
+    /// Where the open burst stands; none if none is open.
+    fn burst_place(&self) -> Option<usize> {
+        self.transfer.as_ref()?.burst_place
+    }
+
+    /// The reads of the burst before its command at `place`.
+    fn reads_before(&self, place: usize) -> usize {
+        read_count(&self.burst_commands()[..place])
+    }
+
+    /// 02: "13 output shorter than the reads (at each event in an open burst too,
+    /// after 18 ...)".
+    fn is_output_short(&self, output: &[u32]) -> bool {
+        self.burst_place().is_some() && output.len() < read_count(self.burst_commands())
+    }
+
+    /// The transfer of the burst's command at `place`, none past its last. 02: "each
+    /// noting attachment then"; "each private write has the next offload data word
+    /// for its bytes, most significant first".
+    fn burst_transfer(&self, place: usize) -> Option<Transfer> {
+        let word = *self.burst_commands().get(place)?;
+        let mut transfer = self.new_transfer(parse_command(word, None));
+        transfer.burst_place = Some(place);
+        if transfer.is_write() {
+            let writes_before = place - self.reads_before(place);
+            let data = self.offload_data[writes_before];
+            transfer.left.extend(data.to_be_bytes());
+        }
+        Some(transfer)
     }
 }
 

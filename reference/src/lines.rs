@@ -6,11 +6,24 @@
 use crate::engine::{set_up, Answer, Bank, Call, SetupNumbers, SESSION_NUMBERS};
 use std::io::{self, BufRead, Write};
 
+/// The most reads of a burst, and one word more.
+const OUTPUT_WORDS: usize = 16;
+
 /// What one line asks for.
 #[derive(Clone, Copy, Debug, PartialEq, Eq)]
 pub enum Request {
     Call(Call),
     SetUp(SetupNumbers),
+    /// How many words of the output the events get from now on.
+    Lend(usize),
+    /// Which word of the output is shown.
+    ShowOutput(usize),
+}
+
+impl Request {
+    pub fn has_answer(&self) -> bool {
+        !matches!(self, Request::Lend(_))
+    }
 }
 
 /// Which lines are read.
@@ -18,7 +31,8 @@ pub enum Request {
 pub enum Mode {
     /// The lines of 01.
     Session,
-    /// The lines of 01 and `B`, a set-up.
+    /// The lines of 01 and `B`, a set-up; `G`, the trigger; `O`, the words lent to
+    /// the events; `P`, a word of the output.
     Test,
 }
 
@@ -103,6 +117,33 @@ fn parse_set_up(fields: &[&[u8]]) -> Option<SetupNumbers> {
     })
 }
 
+/// `O` and how many words, at most all.
+fn parse_lend(fields: &[&[u8]]) -> Option<usize> {
+    let [b"O", count] = fields else {
+        return None;
+    };
+    let count = usize::from(parse_byte(count)?);
+    (count <= OUTPUT_WORDS).then_some(count)
+}
+
+/// `P` and the word's place, one digit.
+fn parse_show_output(fields: &[&[u8]]) -> Option<usize> {
+    let [b"P", place] = fields else {
+        return None;
+    };
+    parse_hex(place, 1).map(|place| place as usize)
+}
+
+fn parse_test_line(fields: &[&[u8]]) -> Option<Request> {
+    if fields == [b"G"] {
+        return Some(Request::Call(Call::Trigger));
+    }
+    parse_set_up(fields)
+        .map(Request::SetUp)
+        .or_else(|| parse_lend(fields).map(Request::Lend))
+        .or_else(|| parse_show_output(fields).map(Request::ShowOutput))
+}
+
 /// 01: "other lines are skipped": those give no request.
 pub fn parse_line(line: &[u8], mode: Mode) -> Option<Request> {
     let fields: Vec<&[u8]> = line.split(|byte| *byte == b' ').collect();
@@ -111,7 +152,7 @@ pub fn parse_line(line: &[u8], mode: Mode) -> Option<Request> {
     }
     match mode {
         Mode::Session => None,
-        Mode::Test => parse_set_up(&fields).map(Request::SetUp),
+        Mode::Test => parse_test_line(&fields),
     }
 }
 
@@ -121,40 +162,69 @@ pub fn print_answer(answer: Answer, output: &mut impl Write) -> io::Result<()> {
     writeln!(output, "{:08x} {:02}", answer.value, answer.number)
 }
 
-/// Answers one request.
-pub fn run_request(bank: &mut Bank, request: &Request) -> Answer {
-    match request {
-        Request::Call(call) => bank.call(call),
-        Request::SetUp(numbers) => {
-            let (new_bank, answer) = set_up(numbers);
-            *bank = new_bank;
-            answer
-        }
-    }
+/// The state of a program: its bank and the output that it lends to the events.
+struct Program {
+    bank: Bank,
+    output: [u32; OUTPUT_WORDS],
+    lent: usize,
 }
 
-fn run_line(bank: &mut Bank, line: &[u8], mode: Mode, output: &mut impl Write) -> io::Result<()> {
-    match parse_line(line, mode) {
-        Some(request) => print_answer(run_request(bank, &request), output),
-        None => Ok(()),
+impl Program {
+    /// 02: "replay lends an empty one"; so does a session, as no line of it lends
+    /// more.
+    fn new() -> Program {
+        Program {
+            bank: set_up(&SESSION_NUMBERS).0,
+            output: [u32::MAX; OUTPUT_WORDS],
+            lent: 0,
+        }
+    }
+
+    /// Answers one request; `O` has no answer.
+    fn answer(&mut self, request: &Request) -> Option<Answer> {
+        match request {
+            Request::Call(call) => Some(self.bank.call(call, &mut self.output[..self.lent])),
+            Request::SetUp(numbers) => {
+                let (bank, answer) = set_up(numbers);
+                self.bank = bank;
+                Some(answer)
+            }
+            Request::Lend(count) => {
+                self.output = [u32::MAX; OUTPUT_WORDS];
+                self.lent = *count;
+                None
+            }
+            Request::ShowOutput(place) => Some(Answer {
+                value: self.output[*place],
+                number: 0,
+            }),
+        }
+    }
+
+    fn run_line(&mut self, line: &[u8], mode: Mode, output: &mut impl Write) -> io::Result<()> {
+        let request = parse_line(line, mode);
+        match request.and_then(|request| self.answer(&request)) {
+            Some(answer) => print_answer(answer, output),
+            None => Ok(()),
+        }
     }
 }
 
 /// 01: "a line ends at a newline or the end of the input". Of a line longer than
 /// any request only enough is kept to see that it is none.
 pub fn run_session(input: impl BufRead, output: &mut impl Write, mode: Mode) -> io::Result<()> {
-    let (mut bank, _) = set_up(&SESSION_NUMBERS);
+    let mut program = Program::new();
     let mut line = Vec::with_capacity(LONGEST_REQUEST + 1);
     for byte in input.bytes() {
         let byte = byte?;
         if byte == b'\n' {
-            run_line(&mut bank, &line, mode, output)?;
+            program.run_line(&line, mode, output)?;
             line.clear();
         } else if line.len() <= LONGEST_REQUEST {
             line.push(byte);
         }
     }
-    run_line(&mut bank, &line, mode, output)?;
+    program.run_line(&line, mode, output)?;
     output.flush()
 }
 
@@ -294,6 +364,61 @@ mod tests {
     }
 
     #[test]
+    fn output_lines_belong_to_test_mode() {
+        let lines: [&[u8]; 3] = [b"G", b"O 10", b"P f"];
+        for line in lines {
+            assert!(!is_request(line));
+            assert!(parse_line(line, Mode::Test).is_some());
+        }
+        let input = b"P 0\nO 2\nG\nP 0\nR 4\n";
+        assert_eq!(run(input, Mode::Session), "00000000 00\n");
+        assert_eq!(
+            run(input, Mode::Test),
+            "ffffffff 00\n00000000 05\nffffffff 00\n00000000 00\n"
+        );
+    }
+
+    #[test]
+    fn fields_of_the_output_lines() {
+        let lines: [(&[u8], Request); 8] = [
+            (b"G", Request::Call(Call::Trigger)),
+            (b"O 0", Request::Lend(0)),
+            (b"O 0f", Request::Lend(15)),
+            (b"O F", Request::Lend(15)),
+            (b"O 10", Request::Lend(16)),
+            (b"P 0", Request::ShowOutput(0)),
+            (b"P f", Request::ShowOutput(15)),
+            (b"P A", Request::ShowOutput(10)),
+        ];
+        for (line, request) in lines {
+            assert_eq!(parse_line(line, Mode::Test), Some(request));
+        }
+        let skipped: [&[u8]; 19] = [
+            b"g", b"G ", b" G", b"G 0", b"GG", b"G\r", b"o 0", b"O", b"O ", b"O 11", b"O ff",
+            b"O 010", b"O  1", b"O 1 1", b"O g", b"P", b"P 00", b"P 10", b"P g",
+        ];
+        for line in skipped {
+            assert_eq!(parse_line(line, Mode::Test), None);
+        }
+    }
+
+    /// `O` fills the whole output anew; a set-up leaves it and what is lent.
+    #[test]
+    fn the_output_between_lines() {
+        let read_of_one = "W 40 0\nW 180 1102\nW 2c0 111\nW 100 3\nG\nX 5a\nF 0\n";
+        let input = format!(
+            "O 1\n{read_of_one}P 0\nP 1\n\
+             B 4 4 4 4 4 1 3 1 3 3 0\nP 0\n{read_of_one}O 0\nP 0\nG\nO 2\nG\n"
+        );
+        let burst = "00000000 00\n".repeat(7);
+        let expected = format!(
+            "{burst}5a000000 00\nffffffff 00\n\
+             00000000 00\n5a000000 00\n{burst}ffffffff 00\n00000000 13\n00000000 00\n"
+        );
+        assert_eq!(run(input.as_bytes(), Mode::Test), expected);
+    }
+
+    #[test]
     fn the_longest_set_up_line() {
         let line = b"B 00000400 00000400 00000400 00000400 00000400 \
                      00000400 00000400 00000400 00000400 00000400 000000ff";
@@ -313,10 +438,10 @@ mod tests {
     #[test]
     fn after_23_every_call_is_21() {
         let input =
-            b"B 0 0 0 0 0 0 0 0 0 0 0\nR 0\nR 1\nW 40 0\nS\nT\nX 0\nF 10\nI 80 0\nD 0 0\nA\n\
+            b"B 0 0 0 0 0 0 0 0 0 0 0\nR 0\nR 1\nW 40 0\nS\nT\nX 0\nF 10\nI 80 0\nD 0 0\nA\nG\n\
                       B 4 4 4 4 4 1 3 1 3 3 0\nR 40\n";
         let expected = "00000000 23\n".to_string()
-            + &"00000000 21\n".repeat(10)
+            + &"00000000 21\n".repeat(11)
             + "00000000 00\n00000001 00\n";
         assert_eq!(run(input, Mode::Test), expected);
     }

@@ -1,8 +1,8 @@
 //! Second program for the host interface of an I3C controller.
 //!
 //! `reference` runs a session from standard input, `reference test` also takes
-//! set-up lines, `reference check` runs the cases marked P, `reference demand`
-//! judges any program's answers to a session script by demand 3.
+//! lines for set-ups and bursts, `reference check` runs the cases marked P,
+//! `reference demand` judges any program's answers to a script by demand 3.
 
 #![forbid(unsafe_code)]
 
@@ -42,8 +42,8 @@ fn run_check() -> ExitCode {
 
 /// Exit status 0 if all is kept, 1 if a clause is broken, 2 if the input can't be
 /// judged or the report can't be written.
-fn run_demand(script: &Path, answers: &Path) -> ExitCode {
-    let findings = match demand::judge_files(script, answers) {
+fn run_demand(script: &Path, answers: &Path, mode: Mode) -> ExitCode {
+    let findings = match demand::judge_files(script, answers, mode) {
         Ok(findings) => findings,
         Err(unusable) => {
             eprintln!("{unusable}");
@@ -62,10 +62,11 @@ fn run_demand(script: &Path, answers: &Path) -> ExitCode {
 }
 
 const USAGE: &str = "\
-usage: reference                        answers the session on standard input
-       reference test                   the same, set-up lines too
-       reference check                  runs the cases marked P
-       reference demand SCRIPT ANSWERS  judges answers to a session by demand 3";
+usage: reference                             answers the session on standard input
+       reference test                        the same, set-up and burst lines too
+       reference check                       runs the cases marked P
+       reference demand SCRIPT ANSWERS       judges answers to a session by demand 3
+       reference demand SCRIPT ANSWERS test  the same, set-up and burst lines too";
 
 fn main() -> ExitCode {
     let arguments: Vec<_> = env::args_os().skip(1).collect();
@@ -74,7 +75,10 @@ fn main() -> ExitCode {
         [word] if word == "test" => run_input(Mode::Test),
         [word] if word == "check" => run_check(),
         [word, script, answers] if word == "demand" => {
-            run_demand(Path::new(script), Path::new(answers))
+            run_demand(Path::new(script), Path::new(answers), Mode::Session)
+        }
+        [word, script, answers, mode] if word == "demand" && mode == "test" => {
+            run_demand(Path::new(script), Path::new(answers), Mode::Test)
         }
         _ => {
             eprintln!("{USAGE}");

@@ -14,25 +14,25 @@ use Rattle.bank.specs.declared.Bank.{Bank}
 use Rattle.bank.specs.declared.Sizes.{Sizes}
 use Rattle.bank.specs.declared.SetUp.{SetUp}
 use Rattle.bank.specs.SetUp.{sizeOk, sizesOk, ringOf, bankOf, refused, setUp, total}
-use Rattle.bank.specs.Formed.{ringOk, queuesOk, regsOk, flagsOk, phaseOk, queuesClear, controlClear, resetOk, wellFormed}
+use Rattle.bank.specs.Formed.{ringOk, queuesOk, regsOk, flagsOk, phaseOk, openOk, queuesClear, controlClear, resetOk, wellFormed}
 use Rattle.bank.proofs.Bools.{and-true, three, five, all-three, all-five}
 
 pub record Formed (b : Bank) : Type 0 where
   pub queues : queuesOk (b .state .queues) ≡ true
   pub regs : regsOk (b .state .regs) ≡ true
-  pub phase : phaseOk (b .state .phase) ≡ true
+  pub phase : openOk (b .state .control) (b .state .regs) (b .state .phase) (b .commands) ≡ true
   pub reset : resetOk (b .state .control) (b .state .phase) (b .state .queues) ≡ true
   pub flags : flagsOk (b .flags) ≡ true
 
 pub formed-is : (b : Bank) → Formed b → wellFormed b ≡ true
 unfolding wellFormed
 formed-is b h =
-    all-five (queuesOk (b .state .queues)) (regsOk (b .state .regs)) (phaseOk (b .state .phase)) (resetOk (b .state .control) (b .state .phase) (b .state .queues)) (flagsOk (b .flags)) (h .queues) (h .regs) (h .phase) (h .reset) (h .flags)
+    all-five (queuesOk (b .state .queues)) (regsOk (b .state .regs)) (openOk (b .state .control) (b .state .regs) (b .state .phase) (b .commands)) (resetOk (b .state .control) (b .state .phase) (b .state .queues)) (flagsOk (b .flags)) (h .queues) (h .regs) (h .phase) (h .reset) (h .flags)
 
 pub formed-of : (b : Bank) → wellFormed b ≡ true → Formed b
 unfolding wellFormed
 formed-of b h =
-    let z = five (queuesOk (b .state .queues)) (regsOk (b .state .regs)) (phaseOk (b .state .phase)) (resetOk (b .state .control) (b .state .phase) (b .state .queues)) (flagsOk (b .flags)) h in
+    let z = five (queuesOk (b .state .queues)) (regsOk (b .state .regs)) (openOk (b .state .control) (b .state .regs) (b .state .phase) (b .commands)) (resetOk (b .state .control) (b .state .phase) (b .state .queues)) (flagsOk (b .flags)) h in
     record { queues = z .0; regs = z .1; phase = z .2; reset = z .3; flags = z .4 }
 
 -- ── Rings ─────────────────────────────────────────────────────────────────────────────────────────────────────
@@ -114,5 +114,5 @@ queues-fresh c m id h =
     })
 
 pub fresh-formed : (c m : Sizes) (id : ℕ) → setUp c m id .answer .number ≡ 0 → Formed (bankOf c m true id)
-unfolding regsOk phaseOk resetOk queuesClear controlClear flagsOk
+unfolding regsOk phaseOk openOk resetOk queuesClear controlClear flagsOk
 fresh-formed c m id h = record { queues = queues-fresh c m id (and-true (leb id 255) (sizesOk c m) (in-range c m id h) .1); regs = refl; phase = refl; reset = refl; flags = refl }

@@ -1,9 +1,10 @@
--- When a bank is well formed: 01's sentence "Well formed: ..", clause by clause. What the types of the code already say (an ID below
+-- When a bank is well formed: 01's sentence "Well formed: ..", clause by clause, and 02 §3's on bursts. What the types of the code already say (an ID below
 -- 256, 128 flags, 32 bits) is not asked again.
 use Prim.Native.Nat.{ℕ, _-_, _*_, _%_, _^_}
-use mathlib.Core.Bool.{Bool, true, not, _&&_, _||_}
+use mathlib.Core.Bool.{Bool, true, cond, not, _&&_, _||_}
 use mathlib.Core.List.{List, [], _∷_}
 use lib.Dec.{leb, ltb, eqb}
+use lib.ListN.{getD}
 use Rattle.ring.specs.declared.Ring.{Ring}
 use Rattle.bank.specs.declared.Queues.{Queues}
 use Rattle.bank.specs.declared.Regs.{Regs}
@@ -12,6 +13,7 @@ use Rattle.bank.specs.declared.Transfer.{Transfer}
 use Rattle.bank.specs.declared.Phase.{Phase}
 use Rattle.bank.specs.declared.Bank.{Bank}
 use Rattle.bank.specs.Phases.{idle, transfer, limit, partBytes}
+use Rattle.bank.specs.Bursts.{offloads, span, allCarried, bursting, place, opens, gatheredBytes}
 use Rattle.bank.specs.SetUp.{sizeOk}
 
 -- "set-up numbers in range; each head below and each level at most its capacity"
@@ -37,7 +39,16 @@ transferOk t most parts = ltb (t .length .0) 4096 && leb (t .moved .0) most && e
 unfoldable pub phaseOk : Phase → Bool
 phaseOk p = transferOk (transfer p) (limit p) (partBytes p)
 
--- "in reset all heads, levels, syncs and pending bits 0 and no transfer open"
+-- 02 §3: "an open burst pass 8, 28 and 29 and stand at one of its commands, with that one's transfer open and its counts as that place
+-- says". That it has a command (28) follows from where it stands.
+unfoldable pub burstOk : Control → Regs → Phase → List ℕ → Bool
+burstOk c g p ws =
+    offloads g && allCarried (span g) ws && leb (c .burst) (span g) && opens (getD ws (place c) 0) p && transferOk (transfer p) (limit p) (gatheredBytes p)
+
+unfoldable pub openOk : Control → Regs → Phase → List ℕ → Bool
+openOk c g p ws = cond (bursting c) (burstOk c g p ws) (phaseOk p)
+
+-- "in reset all heads, levels, syncs and pending bits 0 and no transfer open"; of a burst "in reset none is open"
 abbrev pub ringClear : Ring → Bool
 ringClear r = eqb (r .head) 0 && eqb (r .level .0) 0
 
@@ -45,11 +56,11 @@ unfoldable pub queuesClear : Queues → Bool
 queuesClear q = ringClear (q .cmd) && ringClear (q .cmdr) && ringClear (q .sdo) && ringClear (q .sdi) && ringClear (q .ibi)
 
 unfoldable pub controlClear : Control → Bool
-controlClear c = eqb (c .sync) 0 && eqb (c .ibisync) 0 && not (c .cmdrpending) && not (c .ibipending) && not (c .daapending)
+controlClear c = eqb (c .sync) 0 && eqb (c .ibisync) 0 && not (c .cmdrpending) && not (c .ibipending) && not (c .daapending) && eqb (c .burst) 0
 
 unfoldable pub resetOk : Control → Phase → Queues → Bool
 resetOk c p q = not (c .held) || (queuesClear q && controlClear c && idle p)
 
 unfoldable pub wellFormed : Bank → Bool
 wellFormed b =
-    queuesOk (b .state .queues) && regsOk (b .state .regs) && phaseOk (b .state .phase) && resetOk (b .state .control) (b .state .phase) (b .state .queues) && flagsOk (b .flags)
+    queuesOk (b .state .queues) && regsOk (b .state .regs) && openOk (b .state .control) (b .state .regs) (b .state .phase) (b .commands) && resetOk (b .state .control) (b .state .phase) (b .state .queues) && flagsOk (b .flags)

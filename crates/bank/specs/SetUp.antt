@@ -25,9 +25,9 @@ ringOf cap mark = record { cap = words cap; mark = words mark; head = 0; level =
 abbrev pub queuesOf : Sizes → Sizes → Queues
 queuesOf c m = record { cmd = ringOf (c .cmd) (m .cmd); cmdr = ringOf (c .cmdr) (m .cmdr); sdo = ringOf (c .sdo) (m .sdo); sdi = ringOf (c .sdi) (m .sdi); ibi = ringOf (c .ibi) (m .ibi) }
 
--- syncs and pending bits 0
+-- syncs and pending bits 0, no burst open
 abbrev pub cleared : Bool → Control
-cleared held = record { held = held; sync = 0; ibisync = 0; cmdrpending = false; ibipending = false; daapending = false }
+cleared held = record { held = held; sync = 0; ibisync = 0; cmdrpending = false; ibipending = false; daapending = false; burst = 0 }
 
 -- "registers and device table 0 but for ENABLE and ID"
 abbrev pub bankOf : Sizes → Sizes → Bool → ℕ → Bank

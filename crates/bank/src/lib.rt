@@ -6,6 +6,7 @@ ghost use Rattle.bank.specs.SetUp.{sizeOk, cleared, total};
 use ring::Bytes;
 use ring::Ring;
 
+pub mod bursts;
 pub mod phases;
 
 // The five queues, in the order of their areas in the store.
@@ -29,7 +30,8 @@ pub struct Regs {
 }
 
 // What a reset sets, besides the queues and the transfer: the ENABLE bit, the sync of receipts and that of interrupts,
-// and the pending bits 5, 6 and 7.
+// the pending bits 5, 6 and 7, and where an offload burst stands (0 where none is open, else 1 more than the place of the
+// command whose transfer is open).
 pub struct Control {
     pub held: bool,
     pub sync: u8,
@@ -37,6 +39,7 @@ pub struct Control {
     pub cmdrpending: bool,
     pub ibipending: bool,
     pub daapending: bool,
+    pub burst: u8,
 }
 
 pub enum Kind {
@@ -48,7 +51,7 @@ pub enum Kind {
 }
 
 // An open transfer: the fields of its command that a later event asks for, the bytes moved, whether its device was
-// attached at the start, and the part word, which has the bytes gathered, or those left to send, at its top.
+// attached when it opened, and the part word, which has the bytes gathered, or those left to send, at its top.
 pub struct Transfer {
     pub kind: Kind,
     pub header: bool,
@@ -114,7 +117,7 @@ pub fn size_ok(least: u32, cap: u32, mark: u32) -> bool
     (least <= cap) & (cap <= 1024) & (mark <= cap)
 }
 
-// A control with its syncs and pending bits 0.
+// A control with its syncs and pending bits 0 and no burst open.
 pub fn cleared_control(held: bool) -> Control
     ensures { λ r. ⌜ r ≡ cleared held ⌝ }
 {
@@ -125,6 +128,7 @@ pub fn cleared_control(held: bool) -> Control
         cmdrpending: false,
         ibipending: false,
         daapending: false,
+        burst: 0,
     }
 }
 

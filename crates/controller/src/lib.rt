@@ -1,12 +1,15 @@
-// The interface: register reads and writes, the seven bus events, and `step` over any of them. Every call takes any bank,
-// any store and any argument, and ends with one numbered answer.
+// The interface: register reads and writes, the seven bus events, the trigger of an offload burst, and `step` over any of
+// them. Every call takes any bank, any store, any output and any argument, and ends with one numbered answer. The output
+// takes the words that a burst reads; without a burst it may be empty.
 ghost use mathlib.Core.Path.{_≡_};
-ghost use Rattle.model.specs.declared.Call.the-variants.{Read, Write, Start, Send, Receive, Finish, Interrupt, Request, Take};
-ghost use Rattle.model.specs.Calls.{decide};
+ghost use Rattle.model.specs.declared.Call.the-variants.{Read, Write, Start, Send, Receive, Finish, Interrupt, Request, Take, Trigger};
+ghost use Rattle.model.specs.Bursts.{decide};
 ghost use Rattle.model.specs.Engine.{step};
 ghost use Rattle.model.specs.Rings.{rings};
+ghost use Prim.Native.Nat.{ℕ};
+ghost use mathlib.Core.List.{List, []};
 ghost use lib.ListN.{length};
-ghost use Rattle.answer.specs.Given.{bankWith, controller, tables, tablesOf, view, given, givenOut, decided, Open};
+ghost use Rattle.answer.specs.Given.{bankWith, controller, tables, tablesOf, view, given, givenOut, decided, OpenWith};
 ghost use Rattle.controller.specs.Faults.{faultNumber, refusedOut, nextOut};
 use answer::Next;
 use answer::Out;
@@ -38,7 +41,7 @@ fn refuse(b: Bank, n: u32) -> Out
 
 // The bank with another state, its tables as they were.
 fn with_state(b: Bank, y: Next) -> Out
-    ensures { λ r. ⌜ r ≡ nextOut y (tablesOf b) ⌝ }
+    ensures { λ r. ⌜ r ≡ nextOut y (tablesOf b []) ⌝ }
 {
     let s = y.state;
     let a = y.answer;
@@ -52,7 +55,7 @@ fn with_state(b: Bank, y: Next) -> Out
 
 // A bank of a state and its tables.
 fn with_tables(y: Next, flags: [u8; 128], commands: [u32; 16], payloads: [u32; 16]) -> Out
-    ensures { λ r. ⌜ r ≡ nextOut y (tables flags commands payloads) ⌝ }
+    ensures { λ r. ⌜ r ≡ nextOut y (tables flags commands payloads []) ⌝ }
 {
     let s = y.state;
     let a = y.answer;
@@ -70,7 +73,7 @@ fn with_tables(y: Next, flags: [u8; 128], commands: [u32; 16], payloads: [u32; 1
 
 // A register is read; the value is what it shows.
 pub fn read(b: Bank, store: &[u32], offset: u16) -> Out
-    ensures { λ y. ⌜ givenOut y (now (store .entry)) ≡ step rings (controller b (now (store .entry))) (Read offset) ⌝ }
+    ensures { λ y. ⌜ ((o : List ℕ) → givenOut y (now (store .entry)) o ≡ step rings (controller b (now (store .entry)) o) (Read offset)) ⌝ }
 {
     let n = fault(b, store.len());
     if n != 0 {
@@ -85,7 +88,7 @@ pub fn read(b: Bank, store: &[u32], offset: u16) -> Out
 
 // A register is written.
 pub fn write(b: Bank, store: &mut [u32], offset: u16, v: u32) -> Out
-    ensures { λ y. ⌜ givenOut y (now (store .exit)) ≡ step rings (controller b (now (store .entry))) (Write offset v) ⌝ }
+    ensures { λ y. ⌜ ((o : List ℕ) → givenOut y (now (store .exit)) o ≡ step rings (controller b (now (store .entry)) o) (Write offset v)) ⌝ }
 {
     let n = fault(b, store.len());
     if n != 0 {
@@ -99,88 +102,111 @@ pub fn write(b: Bank, store: &mut [u32], offset: u16, v: u32) -> Out
 }
 
 // The first command of CMD starts; the value is its first word.
-pub fn start(b: Bank, store: &[u32]) -> Out
-    ensures { λ y. ⌜ givenOut y (now (store .entry)) ≡ step rings (controller b (now (store .entry))) Start ⌝ }
+pub fn start(b: Bank, store: &[u32], output: &[u32]) -> Out
+    ensures { λ y. ⌜ givenOut y (now (store .entry)) (now (output .entry)) ≡ step rings (controller b (now (store .entry)) (now (output .entry))) Start ⌝ }
 {
     let n = fault(b, store.len());
     if n != 0 {
         return refuse(b, n);
     }
     let f = b.flags;
-    let y = transfer::start(b.state, &f, store);
+    let c = b.commands;
+    let y = bus::start(b.state, &f, &c, store, output.len());
     with_state(b, y)
 }
 
 // A payload byte is sent; it is the value.
-pub fn send(b: Bank, store: &[u32]) -> Out
-    ensures { λ y. ⌜ givenOut y (now (store .entry)) ≡ step rings (controller b (now (store .entry))) Send ⌝ }
+pub fn send(b: Bank, store: &[u32], output: &[u32]) -> Out
+    ensures { λ y. ⌜ givenOut y (now (store .entry)) (now (output .entry)) ≡ step rings (controller b (now (store .entry)) (now (output .entry))) Send ⌝ }
 {
     let n = fault(b, store.len());
     if n != 0 {
         return refuse(b, n);
     }
-    let y = payload::send(b.state, store);
+    let c = b.commands;
+    let p = b.payloads;
+    let y = bus::send(b.state, &c, &p, store, output.len());
     with_state(b, y)
 }
 
 // A payload byte is received.
-pub fn receive(b: Bank, store: &mut [u32], byte: u8) -> Out
-    ensures { λ y. ⌜ givenOut y (now (store .exit)) ≡ step rings (controller b (now (store .entry))) (Receive byte) ⌝ }
+pub fn receive(b: Bank, store: &mut [u32], output: &[u32], byte: u8) -> Out
+    ensures { λ y. ⌜ givenOut y (now (store .exit)) (now (output .entry)) ≡ step rings (controller b (now (store .entry)) (now (output .entry))) (Receive byte) ⌝ }
 {
     let n = fault(b, store.len());
     if n != 0 {
         return refuse(b, n);
     }
-    let y = payload::receive(b.state, store, byte);
+    let c = b.commands;
+    let y = bus::receive(b.state, &c, store, output.len(), byte);
     with_state(b, y)
 }
 
-// The open transfer ends with a code; the value is its receipt.
-pub fn finish(b: Bank, store: &mut [u32], code: u8) -> Out
-    ensures { λ y. ⌜ givenOut y (now (store .exit)) ≡ step rings (controller b (now (store .entry))) (Finish code) ⌝ }
-{
-    let n = fault(b, store.len());
-    if n != 0 {
-        return refuse(b, n);
-    }
-    let y = transfer::finish(b.state, store, code);
-    with_state(b, y)
-}
-
-// A device asks for an interrupt; the value is the entry queued.
-pub fn interrupt(b: Bank, store: &mut [u32], address: u8, byte: u8) -> Out
-    ensures { λ y. ⌜ givenOut y (now (store .exit)) ≡ step rings (controller b (now (store .entry))) (Interrupt address byte) ⌝ }
+// The open transfer ends with a code; the value is its receipt, in a burst 0.
+pub fn finish(b: Bank, store: &mut [u32], output: &mut [u32], code: u8) -> Out
+    ensures { λ y. ⌜ givenOut y (now (store .exit)) (now (output .exit)) ≡ step rings (controller b (now (store .entry)) (now (output .entry))) (Finish code) ⌝ }
 {
     let n = fault(b, store.len());
     if n != 0 {
         return refuse(b, n);
     }
     let f = b.flags;
-    let y = requests::interrupt(b.state, &f, store, address, byte);
+    let c = b.commands;
+    let y = bus::finish(b.state, &f, &c, store, output, code);
+    with_state(b, y)
+}
+
+// A device asks for an interrupt; the value is the entry queued.
+pub fn interrupt(b: Bank, store: &mut [u32], output: &[u32], address: u8, byte: u8) -> Out
+    ensures { λ y. ⌜ givenOut y (now (store .exit)) (now (output .entry)) ≡ step rings (controller b (now (store .entry)) (now (output .entry))) (Interrupt address byte) ⌝ }
+{
+    let n = fault(b, store.len());
+    if n != 0 {
+        return refuse(b, n);
+    }
+    let f = b.flags;
+    let c = b.commands;
+    let y = bus::interrupt(b.state, &f, &c, store, output.len(), address, byte);
     with_state(b, y)
 }
 
 // A device asks for an address, with two words.
-pub fn request(b: Bank, store: &mut [u32], v: u32, w: u32) -> Out
-    ensures { λ y. ⌜ givenOut y (now (store .exit)) ≡ step rings (controller b (now (store .entry))) (Request v w) ⌝ }
+pub fn request(b: Bank, store: &mut [u32], output: &[u32], v: u32, w: u32) -> Out
+    ensures { λ y. ⌜ givenOut y (now (store .exit)) (now (output .entry)) ≡ step rings (controller b (now (store .entry)) (now (output .entry))) (Request v w) ⌝ }
 {
     let n = fault(b, store.len());
     if n != 0 {
         return refuse(b, n);
     }
-    let y = requests::request(b.state, store, v, w);
+    let c = b.commands;
+    let y = bus::request(b.state, &c, store, output.len(), v, w);
     with_state(b, y)
 }
 
 // The device takes its address from SDO; the value is the address, the number 0, or 19 for a wrong parity bit.
-pub fn take_address(b: Bank, store: &[u32]) -> Out
-    ensures { λ y. ⌜ givenOut y (now (store .entry)) ≡ step rings (controller b (now (store .entry))) Take ⌝ }
+pub fn take_address(b: Bank, store: &[u32], output: &[u32]) -> Out
+    ensures { λ y. ⌜ givenOut y (now (store .entry)) (now (output .entry)) ≡ step rings (controller b (now (store .entry)) (now (output .entry))) Take ⌝ }
 {
     let n = fault(b, store.len());
     if n != 0 {
         return refuse(b, n);
     }
-    let y = requests::take_address(b.state, store);
+    let c = b.commands;
+    let y = bus::take_address(b.state, &c, store, output.len());
+    with_state(b, y)
+}
+
+// An offload burst is triggered: its first transfer opens.
+pub fn trigger(b: Bank, store: &[u32], output: &[u32]) -> Out
+    ensures { λ y. ⌜ givenOut y (now (store .entry)) (now (output .entry)) ≡ step rings (controller b (now (store .entry)) (now (output .entry))) Trigger ⌝ }
+{
+    let n = fault(b, store.len());
+    if n != 0 {
+        return refuse(b, n);
+    }
+    let f = b.flags;
+    let c = b.commands;
+    let y = bus::trigger(b.state, &f, &c, output.len());
     with_state(b, y)
 }
 
@@ -191,21 +217,31 @@ fn serve(
     commands: &mut [u32; 16],
     payloads: &mut [u32; 16],
     store: &mut [u32],
+    output: &mut [u32],
     call: Call,
 ) -> Next
-    requires { ⌜ Open st (now store) ⌝ }
-    ensures { λ y. ⌜ given y (tables (now (flags .exit)) (now (commands .exit)) (now (payloads .exit))) (now (store .exit)) ≡ decided st (tables (now (flags .entry)) (now (commands .entry)) (now (payloads .entry))) (now (store .entry)) (decide (view st (tables (now (flags .entry)) (now (commands .entry)) (now (payloads .entry))) (now (store .entry))) call) ⌝ }
+    requires { ⌜ OpenWith st (now commands) (now store) ⌝ }
+    ensures { λ y. ⌜ given y (tables (now (flags .exit)) (now (commands .exit)) (now (payloads .exit)) (now (output .exit))) (now (store .exit)) ≡ decided st (tables (now (flags .entry)) (now (commands .entry)) (now (payloads .entry)) (now (output .entry))) (now (store .entry)) (decide (view st (tables (now (flags .entry)) (now (commands .entry)) (now (payloads .entry)) (now (output .entry))) (now (store .entry))) call) ⌝ }
 {
     match call {
         Call::Read(offset) => read::read(st, flags, commands, payloads, store, offset),
         Call::Write(offset, v) => write::write(st, flags, commands, payloads, store, offset, v),
-        Call::Start => transfer::start(st, flags, store),
-        Call::Send => payload::send(st, store),
-        Call::Receive(byte) => payload::receive(st, store, byte),
-        Call::Finish(code) => transfer::finish(st, store, code),
-        Call::Interrupt(address, byte) => requests::interrupt(st, flags, store, address, byte),
-        Call::Request(v, w) => requests::request(st, store, v, w),
-        Call::Take => requests::take_address(st, store),
+        Call::Start => bus::start(st, flags, commands, store, output.len()),
+        Call::Send => bus::send(st, commands, payloads, store, output.len()),
+        Call::Receive(byte) => bus::receive(st, commands, store, output.len(), byte),
+        Call::Finish(code) => bus::finish(st, flags, commands, store, output, code),
+        Call::Interrupt(address, byte) => bus::interrupt(
+            st,
+            flags,
+            commands,
+            store,
+            output.len(),
+            address,
+            byte,
+        ),
+        Call::Request(v, w) => bus::request(st, commands, store, output.len(), v, w),
+        Call::Take => bus::take_address(st, commands, store, output.len()),
+        Call::Trigger => bus::trigger(st, flags, commands, output.len()),
     }
 }
 
@@ -217,26 +253,27 @@ pub fn step_parts(
     commands: &mut [u32; 16],
     payloads: &mut [u32; 16],
     store: &mut [u32],
+    output: &mut [u32],
     fault: u32,
     call: Call,
 ) -> Next
-    requires { ⌜ fault ≡ faultNumber (bankWith st (tables (now flags) (now commands) (now payloads))) (length (now store)) ⌝ }
-    ensures { λ y. ⌜ given y (tables (now (flags .exit)) (now (commands .exit)) (now (payloads .exit))) (now (store .exit)) ≡ step rings (controller (bankWith st (tables (now (flags .entry)) (now (commands .entry)) (now (payloads .entry)))) (now (store .entry))) call ⌝ }
+    requires { ⌜ fault ≡ faultNumber (bankWith st (tables (now flags) (now commands) (now payloads) (now output))) (length (now store)) ⌝ }
+    ensures { λ y. ⌜ given y (tables (now (flags .exit)) (now (commands .exit)) (now (payloads .exit)) (now (output .exit))) (now (store .exit)) ≡ step rings (controller (bankWith st (tables (now (flags .entry)) (now (commands .entry)) (now (payloads .entry)) (now (output .entry)))) (now (store .entry)) (now (output .entry))) call ⌝ }
 {
     if fault != 0 {
         return answer::refuse(st, fault);
     }
-    serve(st, flags, commands, payloads, store, call)
+    serve(st, flags, commands, payloads, store, output, call)
 }
 
 // Any call.
-pub fn step(b: Bank, store: &mut [u32], call: Call) -> Out
-    ensures { λ y. ⌜ givenOut y (now (store .exit)) ≡ step rings (controller b (now (store .entry))) call ⌝ }
+pub fn step(b: Bank, store: &mut [u32], output: &mut [u32], call: Call) -> Out
+    ensures { λ y. ⌜ givenOut y (now (store .exit)) (now (output .exit)) ≡ step rings (controller b (now (store .entry)) (now (output .entry))) call ⌝ }
 {
     let n = fault(b, store.len());
     let mut f = b.flags;
     let mut c = b.commands;
     let mut p = b.payloads;
-    let y = step_parts(b.state, &mut f, &mut c, &mut p, store, n, call);
+    let y = step_parts(b.state, &mut f, &mut c, &mut p, store, output, n, call);
     with_tables(y, f, c, p)
 }

@@ -1,13 +1,16 @@
 // Whether a bank is well formed.
 ghost use mathlib.Core.Path.{_≡_};
 ghost use Prim.Native.Nat.{_-_, _*_, _^_, _<_};
-ghost use Rattle.bank.specs.Formed.{ringOk, queuesOk, regsOk, flagsOk, transferOk, phaseOk, ringClear, queuesClear, controlClear, resetOk, wellFormed};
+ghost use lib.ListN.{getD};
+ghost use Rattle.bank.specs.Bursts.{place};
+ghost use Rattle.bank.specs.Formed.{ringOk, queuesOk, regsOk, flagsOk, transferOk, phaseOk, burstOk, openOk, ringClear, queuesClear, controlClear, resetOk, wellFormed};
 use bank::Bank;
 use bank::Control;
 use bank::Phase;
 use bank::Queues;
 use bank::Regs;
 use bank::Transfer;
+use bank::bursts;
 use bank::phases;
 use ring::Bytes;
 use ring::Ring;
@@ -50,19 +53,18 @@ fn flags_ok(flags: [u8; 128]) -> bool
 
 // What a part word with `parts` bytes at its top is a multiple of.
 fn unit(parts: u32) -> u64
-    requires { ⌜ parts < 4 ⌝ }
     ensures { λ n. ⌜ (n ≡ 2 ^ (32 - 8 * parts)) × (0 < n) ⌝ }
 {
     match parts {
         0 => 4294967296,
         1 => 16777216,
         2 => 65536,
-        _ => 256,
+        3 => 256,
+        _ => 1,
     }
 }
 
 fn transfer_ok(t: Transfer, most: Bytes, parts: Bytes) -> bool
-    requires { ⌜ parts .0 < 4 ⌝ }
     ensures { λ b. ⌜ b ≡ transferOk t (most .0) (parts .0) ⌝ }
 {
     (t.length.0 < 4096) & (t.moved.0 <= most.0) & (t.part as u64 % unit(parts.0) == 0)
@@ -73,6 +75,51 @@ fn phase_ok(p: Phase) -> bool
 {
     let t = phases::transfer_of(p);
     transfer_ok(t, phases::limit_of(p), phases::part_bytes(p))
+}
+
+// The place of the command that a burst stands at.
+fn place_of(c: Control) -> usize
+    ensures { λ k. ⌜ k ≡ place c ⌝ }
+{
+    if c.burst == 0 {
+        return 0;
+    }
+    (c.burst - 1) as usize
+}
+
+// A word of the offload commands, or 0 past their end.
+fn word_at(words: &[u32], k: usize) -> u32
+    ensures { λ w. ⌜ w ≡ getD (now (words .entry)) k 0 ⌝ }
+{
+    if k < words.len() {
+        return words[k];
+    }
+    0
+}
+
+fn burst_ok(c: Control, g: Regs, p: Phase, commands: &[u32; 16]) -> bool
+    ensures { λ b. ⌜ b ≡ burstOk c g p (now (commands .entry)) ⌝ }
+{
+    let span = bursts::span_of(g);
+    let at = c.burst as usize;
+    let k = place_of(c);
+    let w = word_at(commands, k);
+    let t = phases::transfer_of(p);
+    bursts::is_offload(g)
+        & bursts::all_carried(commands, span)
+        & (at <= span)
+        & bursts::is_open(w, p)
+        & transfer_ok(t, phases::limit_of(p), bursts::gathered_bytes(p))
+}
+
+// Whether what is open, a burst or a transfer alone, is well formed. Without a burst no command is looked at.
+fn open_ok(c: Control, g: Regs, p: Phase, commands: &[u32; 16]) -> bool
+    ensures { λ b. ⌜ b ≡ openOk c g p (now (commands .entry)) ⌝ }
+{
+    if !bursts::is_bursting(c) {
+        return phase_ok(p);
+    }
+    burst_ok(c, g, p, commands)
 }
 
 fn ring_clear(r: Ring) -> bool
@@ -94,7 +141,12 @@ fn queues_clear(q: Queues) -> bool
 fn control_clear(c: Control) -> bool
     ensures { λ b. ⌜ b ≡ controlClear c ⌝ }
 {
-    (c.sync == 0) & (c.ibisync == 0) & !c.cmdrpending & !c.ibipending & !c.daapending
+    (c.sync == 0)
+        & (c.ibisync == 0)
+        & !c.cmdrpending
+        & !c.ibipending
+        & !c.daapending
+        & (c.burst == 0)
 }
 
 fn reset_ok(c: Control, p: Phase, q: Queues) -> bool
@@ -109,10 +161,11 @@ pub fn well_formed(b: Bank) -> bool
 {
     let s = b.state;
     let f = b.flags;
+    let w = b.commands;
     let p = s.phase;
     queues_ok(s.queues)
         & regs_ok(s.regs)
-        & phase_ok(p)
+        & open_ok(s.control, s.regs, p, &w)
         & reset_ok(s.control, p, s.queues)
         & flags_ok(f)
 }

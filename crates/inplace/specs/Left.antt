@@ -1,4 +1,4 @@
--- What a call in place leaves: the bank and the store where they lie, and its answer.
+-- What a call in place leaves: the bank, the store and the output where they lie, and its answer.
 use Prim.Native.Nat.{ℕ}
 use mathlib.Core.List.{List}
 use Rattle.bank.specs.declared.Bank.{Bank}
@@ -7,5 +7,5 @@ use Rattle.model.specs.Engine.{Step}
 use Rattle.model.specs.Rings.{Controller}
 use Rattle.answer.specs.Given.{controller}
 
-abbrev pub left : Bank → Answer → List ℕ → Step Controller
-left b a s = record { answer = a; next = controller b s }
+abbrev pub left : Bank → Answer → List ℕ → List ℕ → Step Controller
+left b a s o = record { answer = a; next = controller b s o }

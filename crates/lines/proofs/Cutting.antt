@@ -38,7 +38,7 @@ unfolding fed
 fed-after t s [] = refl
 fed-after t s (b ∷ bytes) = ap (λ (x : Session). fed x bytes) (choice-after t s b (eqb b 0x0a)) ∙ fed-after t (fedByte s b) bytes
 
--- the text of two pieces is that of the first and then that of the second from where the first left bank, store and line
+-- the text of two pieces is that of the first and then that of the second from where the first left bank, store, output and line
 pub pieces : (l : Controller) (r : Reading) (a b : List ℕ)
     → let y = fed (session l r []) a in
     fed (session l r []) (a ++ b) .text ≡ y .text ++ fed (session (y .controller) (y .line) []) b .text
@@ -67,25 +67,25 @@ fed-byte s l r t bytes i h e n = sym (passed (eqb (getD bytes i 0) 0x0a) (lineEn
 
 -- a newline
 pub fed-newline : (s : Session) (l : Controller) (r : Reading) (t bytes : List ℕ) (i : ℕ) → i < length bytes → session l r t ≡ fed s (take i bytes)
-    → getD bytes i 0 ≡ 0x0a → (y : Ended) (s′ out : List ℕ) → endedSession y s′ out ≡ lineEnd (session l r t) → (q : Reading) → q ≡ fresh
-    → session (controller (y .bank) s′) q (take (y .count) out) ≡ fed s (take (i + 1) bytes)
-fed-newline s l r t bytes i h e n y s′ out z q f =
-    ap (λ (x : Reading). session (controller (y .bank) s′) x (take (y .count) out)) f
+    → getD bytes i 0 ≡ 0x0a → (y : Ended) (s′ o out : List ℕ) → endedSession y s′ o out ≡ lineEnd (session l r t) → (q : Reading) → q ≡ fresh
+    → session (controller (y .bank) s′ o) q (take (y .count) out) ≡ fed s (take (i + 1) bytes)
+fed-newline s l r t bytes i h e n y s′ o out z q f =
+    ap (λ (x : Reading). session (controller (y .bank) s′ o) x (take (y .count) out)) f
     ∙ z
     ∙ sym (chosen (eqb (getD bytes i 0) 0x0a) (lineEnd (session l r t)) (session l (eatOf r (getD bytes i 0)) t) (eq-eqb (getD bytes i 0) 0x0a n))
     ∙ ap (λ (x : Session). fedByte x (getD bytes i 0)) e
     ∙ fed-next s bytes i h
 
 -- the end of a line that names no call, and of one that names a call
-pub silent : (l : Controller) (r : Reading) (y : Ran) (s t : List ℕ) → ranTold y s ≡ ranOf l (callOf r) → y .said ≡ false
-    → session (controller (y .bank) s) fresh t ≡ lineEnd (session l r t)
-silent l r y s t e n =
-    sym (ap (λ (x : List ℕ). session (controller (y .bank) s) fresh (t ++ x)) (passed (y .said) (y .text) [] n) ∙ ap (session (controller (y .bank) s) fresh) (append-nil t))
+pub silent : (l : Controller) (r : Reading) (y : Ran) (s o t : List ℕ) → ranTold y s o ≡ ranOf l (callOf r) → y .said ≡ false
+    → session (controller (y .bank) s o) fresh t ≡ lineEnd (session l r t)
+silent l r y s o t e n =
+    sym (ap (λ (x : List ℕ). session (controller (y .bank) s o) fresh (t ++ x)) (passed (y .said) (y .text) [] n) ∙ ap (session (controller (y .bank) s o) fresh) (append-nil t))
     ∙ ap (λ (x : Told). session (x .controller) fresh (t ++ x .text)) e
 
-pub spoken : (l : Controller) (r : Reading) (y : Ran) (s t t′ : List ℕ) → ranTold y s ≡ ranOf l (callOf r) → y .said ≡ true → t′ ≡ t ++ y .text
-    → session (controller (y .bank) s) fresh t′ ≡ lineEnd (session l r t)
-spoken l r y s t t′ e n z =
-    ap (session (controller (y .bank) s) fresh) z
-    ∙ sym (ap (λ (x : List ℕ). session (controller (y .bank) s) fresh (t ++ x)) (chosen (y .said) (y .text) [] n))
+pub spoken : (l : Controller) (r : Reading) (y : Ran) (s o t t′ : List ℕ) → ranTold y s o ≡ ranOf l (callOf r) → y .said ≡ true → t′ ≡ t ++ y .text
+    → session (controller (y .bank) s o) fresh t′ ≡ lineEnd (session l r t)
+spoken l r y s o t t′ e n z =
+    ap (session (controller (y .bank) s o) fresh) z
+    ∙ sym (ap (λ (x : List ℕ). session (controller (y .bank) s o) fresh (t ++ x)) (chosen (y .said) (y .text) [] n))
     ∙ ap (λ (x : Told). session (x .controller) fresh (t ++ x .text)) e

@@ -16,7 +16,7 @@ pub record Form : Type 0 where
 abbrev pub form : ℕ → List ℕ → (ℕ → ℕ → Call) → Form
 form l f c = record { letter = l; fields = f; call = c }
 
--- "W offset value, R offset, S start, T send, X byte, F code, I address byte, D two words, A", "at most 4 digits for an offset, 8 for a value or word, 2 for the rest": a field of 4 digits is below 0x10000, one of 2 below 0x100, and no remainder here cuts it
+-- "W offset value, R offset, S start, T send, X byte, F code, I address byte, D two words, A", "at most 4 digits for an offset, 8 for a value or word, 2 for the rest": a field of 4 digits is below 0x10000, one of 2 below 0x100, and no remainder here cuts it. "The trigger has no letter."
 unfoldable pub forms : List Form
 forms =
     form 0x57 (4 ∷ 8 ∷ []) (λ v w. Write (v % 0x10000) w)

@@ -17,7 +17,7 @@ use Rattle.lines.specs.declared.Parsed.{Parsed}
 use Rattle.lines.specs.declared.Parsed.the-variants.{Named, Skipped}
 use Rattle.lines.specs.Lines.{fresh, eatOf, callOf}
 
--- a bank with its store, and what was printed
+-- a bank with its store and output, and what was printed
 pub record Told : Type 0 where
   pub controller : Controller
   pub text : List ℕ
@@ -34,10 +34,10 @@ ranOf l Skipped = told l []
 ranOf l (Named c) = let s = step rings l c in told (s .next) (answerLine (s .answer))
 
 -- what `run` gives
-abbrev pub ranTold : Ran → List ℕ → Told
-ranTold r s = told (controller (r .bank) s) (cond (r .said) (r .text) [])
+abbrev pub ranTold : Ran → List ℕ → List ℕ → Told
+ranTold r s o = told (controller (r .bank) s o) (cond (r .said) (r .text) [])
 
--- a session between two bytes: bank and store, the line so far, what was printed
+-- a session between two bytes: bank, store and output, the line so far, what was printed
 pub record Session : Type 0 where
   pub controller : Controller
   pub line : Reading
@@ -47,11 +47,11 @@ abbrev pub session : Controller → Reading → List ℕ → Session
 session l r t = record { controller = l; line = r; text = t }
 
 -- what `end_line` and `feed` give
-abbrev pub endedSession : Ended → List ℕ → List ℕ → Session
-endedSession r s out = session (controller (r .bank) s) fresh (take (r .count) out)
+abbrev pub endedSession : Ended → List ℕ → List ℕ → List ℕ → Session
+endedSession r s o out = session (controller (r .bank) s o) fresh (take (r .count) out)
 
-abbrev pub fedSession : Fed → List ℕ → List ℕ → Session
-fedSession r s out = session (controller (r .bank) s) (r .line) (take (r .count) out)
+abbrev pub fedSession : Fed → List ℕ → List ℕ → List ℕ → Session
+fedSession r s o out = session (controller (r .bank) s o) (r .line) (take (r .count) out)
 
 -- the end of a line
 abbrev pub lineEnd : Session → Session

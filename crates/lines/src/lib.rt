@@ -1,5 +1,6 @@
 // A session of 01: bytes in pieces of any length, the lines in them, the calls that these name, and the answers as text.
-// A line is read byte by byte, so nothing of it is held but what it may still name.
+// A line is read byte by byte, so nothing of it is held but what it may still name. `output` is the output of words that
+// is lent to every call, `out` takes the text.
 ghost use mathlib.Core.Path.{_≡_};
 ghost use mathlib.Core.Bool.{false};
 ghost use mathlib.Core.List.{List, [], _++_};
@@ -207,10 +208,10 @@ pub struct Ran {
 }
 
 // A call and its line.
-fn serve(b: Bank, store: &mut [u32], c: Call) -> Ran
-    ensures { λ r. ⌜ ranTold r (now (store .exit)) ≡ ranOf (controller b (now (store .entry))) (Named c) ⌝ }
+fn serve(b: Bank, store: &mut [u32], output: &mut [u32], c: Call) -> Ran
+    ensures { λ r. ⌜ ranTold r (now (store .exit)) (now (output .exit)) ≡ ranOf (controller b (now (store .entry)) (now (output .entry))) (Named c) ⌝ }
 {
-    let out = controller::step(b, store, c);
+    let out = controller::step(b, store, output, c);
     let text = print::line(out.answer);
     let next = out.bank;
     Ran {
@@ -222,7 +223,7 @@ fn serve(b: Bank, store: &mut [u32], c: Call) -> Ran
 
 // No call: the bank as it was, nothing printed.
 fn silent(b: Bank) -> Ran
-    ensures { λ r. ⌜ ((s : List ℕ) → ranTold r s ≡ ranOf (controller b s) Skipped) ⌝ }
+    ensures { λ r. ⌜ ((s o : List ℕ) → ranTold r s o ≡ ranOf (controller b s o) Skipped) ⌝ }
 {
     Ran {
         bank: b,
@@ -232,16 +233,16 @@ fn silent(b: Bank) -> Ran
 }
 
 // The end of a line: the call that it names is made, and its answer printed.
-pub fn run(b: Bank, store: &mut [u32], line: Reading) -> Ran
-    ensures { λ r. ⌜ ranTold r (now (store .exit)) ≡ ranOf (controller b (now (store .entry))) (callOf line) ⌝ }
+pub fn run(b: Bank, store: &mut [u32], output: &mut [u32], line: Reading) -> Ran
+    ensures { λ r. ⌜ ranTold r (now (store .exit)) (now (output .exit)) ≡ ranOf (controller b (now (store .entry)) (now (output .entry))) (callOf line) ⌝ }
 {
     match named(line) {
-        Parsed::Named(c) => serve(b, store, c),
+        Parsed::Named(c) => serve(b, store, output, c),
         Parsed::Skipped => silent(b),
     }
 }
 
-// The bytes of a line, into the output from a place on.
+// The bytes of a line, into the text from a place on.
 fn put(out: &mut [u8], at: usize, text: [u8; 12])
     requires { ⌜ at + 12 ≤ length (now out) ⌝ }
     ensures { λ _. ⌜ take (at + 12) (now (out .exit)) ≡ take at (now (out .entry)) ++ text ⌝ }
@@ -251,19 +252,26 @@ fn put(out: &mut [u8], at: usize, text: [u8; 12])
     }
 }
 
-// The bank after the end of a line, and how many bytes of the output are filled.
+// The bank after the end of a line, and how many bytes of the text are filled.
 pub struct Ended {
     pub bank: Bank,
     pub count: usize,
 }
 
 // A line ends, at a newline or at the end of the input: a layer, no interface.
-pub fn end_line(b: Bank, store: &mut [u32], line: Reading, out: &mut [u8], at: usize) -> Ended
+pub fn end_line(
+    b: Bank,
+    store: &mut [u32],
+    output: &mut [u32],
+    line: Reading,
+    out: &mut [u8],
+    at: usize,
+) -> Ended
     requires { ⌜ at + 12 ≤ length (now out) ⌝ }
-    ensures { λ r. ⌜ (endedSession r (now (store .exit)) (now (out .exit)) ≡ lineEnd (session (controller b (now (store .entry))) line (take at (now (out .entry))))) × (r .count ≤ at + 12) ⌝ }
+    ensures { λ r. ⌜ (endedSession r (now (store .exit)) (now (output .exit)) (now (out .exit)) ≡ lineEnd (session (controller b (now (store .entry)) (now (output .entry))) line (take at (now (out .entry))))) × (r .count ≤ at + 12) ⌝ }
 {
     let end = at + 12;
-    let r = run(b, store, line);
+    let r = run(b, store, output, line);
     let next = r.bank;
     if !r.said {
         return Ended {
@@ -279,17 +287,24 @@ pub fn end_line(b: Bank, store: &mut [u32], line: Reading, out: &mut [u8], at: u
     }
 }
 
-// The bank and the line so far after a piece of the input, and how many bytes of the output are filled.
+// The bank and the line so far after a piece of the input, and how many bytes of the text are filled.
 pub struct Fed {
     pub bank: Bank,
     pub line: Reading,
     pub count: usize,
 }
 
-// A piece of the input: a layer, no interface. The output has room for a line a byte.
-pub fn feed(b: Bank, store: &mut [u32], line: Reading, piece: &[u8], out: &mut [u8]) -> Fed
+// A piece of the input: a layer, no interface. The text has room for a line a byte.
+pub fn feed(
+    b: Bank,
+    store: &mut [u32],
+    output: &mut [u32],
+    line: Reading,
+    piece: &[u8],
+    out: &mut [u8],
+) -> Fed
     requires { ⌜ 12 * length (now piece) ≤ length (now out) ⌝ }
-    ensures { λ r. ⌜ (fedSession r (now (store .exit)) (now (out .exit)) ≡ fed (session (controller b (now (store .entry))) line []) (now (piece .entry))) × (r .count ≤ length (now (out .exit))) ⌝ }
+    ensures { λ r. ⌜ (fedSession r (now (store .exit)) (now (output .exit)) (now (out .exit)) ≡ fed (session (controller b (now (store .entry)) (now (output .entry))) line []) (now (piece .entry))) × (r .count ≤ length (now (out .exit))) ⌝ }
 {
     let mut bank = b;
     let mut reading = line;
@@ -300,7 +315,7 @@ pub fn feed(b: Bank, store: &mut [u32], line: Reading, piece: &[u8], out: &mut [
             reading = eat(reading, byte);
             continue;
         }
-        let e = end_line(bank, store, reading, out, count);
+        let e = end_line(bank, store, output, reading, out, count);
         bank = e.bank;
         count = e.count;
         reading = begin();

@@ -23,12 +23,15 @@ use Rattle.bank.proofs.Laws.{Formed, formed-is, formed-of, ready}
 use Rattle.registers.specs.Map.{named, find, registerAt}
 use Rattle.model.specs.declared.Call.{Call}
 use Rattle.model.specs.declared.Call.the-variants.{Read, Write, Finish}
-use Rattle.model.specs.View.{bit, bits, Queue, Cmd, Cmdr, Sdo, Sdi, Ibi, of, View}
+use Rattle.bank.specs.Bits.{bit, bits}
+use Rattle.model.specs.View.{Queue, Cmd, Cmdr, Sdo, Sdi, Ibi, of, View}
 use Rattle.model.specs.Decision.{QueueOp, take, only, Effect, Decision, does, _⇒_∣_, first, effect}
 use Rattle.model.specs.Commands.{receiptWord}
-use Rattle.model.specs.Registers.{Cell, scratch, mask, ops, ibiConfig, devChar, offloadCmd, offloadSdo, Row, absent, shows, holds, pushes, takes, enables, acknowledges, row, shown, clears, released, enable, read, write}
-use Rattle.model.specs.Calls.{allowed, decide, finish}
-use Rattle.model.specs.Engine.{Step, outcome, step, final}
+use Rattle.model.specs.Registers.{Cell, scratch, mask, ops, ibiConfig, devChar, offloadCmd, offloadSdo, Row, absent, shows, holds, pushes, takes, enables, acknowledges, row, shown, clears, released, burstHolds, enable, read, write}
+use Rattle.model.specs.Calls.{allowed, finish}
+use Rattle.model.specs.Bursts.{short, decide}
+use Rattle.bank.specs.Bursts.{bursting}
+use Rattle.model.specs.Engine.{Step, outcome, step, Lent, lending, final}
 use Rattle.model.specs.Rings.{Area, Controller, areas, wordsIn, viewRings, onRings, onRing, onStore, settleRings, guardRings, rings}
 use Rattle.model.specs.Lists.{Lists, viewLists, settleLists, lists}
 use Rattle.model.specs.Laws.{fresh, freshLists, same, RefusalChangesNothing, StaysWellFormed}
@@ -44,10 +47,10 @@ abbrev settled : Controller → Call → Step Controller
 settled l c = let e = effect (decide (viewRings l) c) in outcome none e l (settleRings l e)
 
 -- ── A call answered 0 was served ──────────────────────────────────────────────────────────────────────────────
-not-zero : (n : ℕ) → Refusal n → n ≡ 0 → ⊥
+pub not-zero : (n : ℕ) → Refusal n → n ≡ 0 → ⊥
 not-zero n r e = true≢false (sym (eq-eqb n 0 e) ∙ r .not0)
 
-served : (l : Controller) (c : Call) → step rings l c .answer .number ≡ 0 → (wellFormed (l .bank) ≡ true) × (eqb (length (l .store)) (total (l .bank .state .queues)) ≡ true) × (step rings l c ≡ settled l c)
+pub served : (l : Controller) (c : Call) → step rings l c .answer .number ≡ 0 → (wellFormed (l .bank) ≡ true) × (eqb (length (l .store)) (total (l .bank .state .queues)) ≡ true) × (step rings l c ≡ settled l c)
 served l c = by-outcome (λ r. r .answer .number ≡ 0 → (wellFormed (l .bank) ≡ true) × (eqb (length (l .store)) (total (l .bank .state .queues)) ≡ true) × (r ≡ settled l c)) l c (λ n k e. absurd (not-zero n k e)) (λ f z p e. (f, eq-eqb (length (l .store)) (total (l .bank .state .queues)) z, refl))
 
 -- ── A register that is read without a test ────────────────────────────────────────────────────────────────────
@@ -60,7 +63,11 @@ read-held l o c f z e = rw (f, z, e)
 
 pub plain-write-taken : PlainWriteTaken
 unfolding PlainWriteTaken step guardRings
-plain-write-taken l o v c e f z = rw (f, eq-eqb (length (l .store)) (total (l .bank .state .queues)) z, e)
+plain-write-taken l o v c e f z = rw (f, eq-eqb (length (l .store)) (total (l .bank .state .queues)) z, e) (by-burst (burstHolds c && bursting (l .bank .state .control)))
+  where
+    by-burst : (b : Bool) → (let x = effect (write (holds c) (viewRings l) v) in outcome (cond b (some 6) none) x l (settleRings l x) .answer ≡ record { value = 0; number = cond b 6 0 })
+    by-burst true = refl
+    by-burst false = refl
 
 -- ── Read back ─────────────────────────────────────────────────────────────────────────────────────────────────
 abbrev stored : Controller → Cell → ℕ → Controller
@@ -101,10 +108,13 @@ caps-settled Sdo m none e = refl
 caps-settled Sdi m none e = refl
 caps-settled Ibi m none e = refl
 
-caps-kept : (k : Queue) (cs : List Call) (m : Lists) → of k (final lists m cs .queues) .cap ≡ of k (m .queues) .cap
+caps-kept : (k : Queue) (cs : List Lent) (m : Lists) → of k (final lists m cs .queues) .cap ≡ of k (m .queues) .cap
 unfolding final step
 caps-kept k [] m = refl
-caps-kept k (c ∷ cs) m = caps-kept k cs (step lists m c .next) ∙ caps-settled k m (first (decide (viewLists m) c)) (effect (decide (viewLists m) c))
+caps-kept k (c ∷ cs) m =
+    let n = lists .lend (c .output) m in
+    let d = decide (viewLists n) (c .call) in
+    caps-kept k cs (step lists n (c .call) .next) ∙ caps-settled k n (first d) (effect d)
 
 room-read : (l : Controller) → Formed (l .bank) → RightLength l → (step rings l (Read 0x0c0) .answer .value ≡ l .bank .state .queues .cmd .cap .0 - l .bank .state .queues .cmd .level .0) × (step rings l (Read 0x0c8) .answer .value ≡ l .bank .state .queues .sdo .cap .0 - l .bank .state .queues .sdo .level .0)
 unfolding step guardRings named find
@@ -155,11 +165,11 @@ cleared-if true old = refl
 cleared-if false old = refl
 
 control-after : (q : Queue) (b : Bool) (c : Control) → same Sdo q ≡ false → ControlAfter q b c (clears q b c)
-control-after Cmd b c h = record { held = refl; sync = refl; ibisync = refl; cmdrpending = refl; ibipending = refl; daapending = refl }
-control-after Cmdr b c h = record { held = refl; sync = refl; ibisync = refl; cmdrpending = cleared-if b (c .cmdrpending); ibipending = refl; daapending = refl }
+control-after Cmd b c h = record { held = refl; sync = refl; ibisync = refl; cmdrpending = refl; ibipending = refl; daapending = refl; burst = refl }
+control-after Cmdr b c h = record { held = refl; sync = refl; ibisync = refl; cmdrpending = cleared-if b (c .cmdrpending); ibipending = refl; daapending = refl; burst = refl }
 control-after Sdo b c h = absurd (true≢false h)
-control-after Sdi b c h = record { held = refl; sync = refl; ibisync = refl; cmdrpending = refl; ibipending = refl; daapending = refl }
-control-after Ibi b c h = record { held = refl; sync = refl; ibisync = refl; cmdrpending = refl; ibipending = cleared-if b (c .ibipending); daapending = refl }
+control-after Sdi b c h = record { held = refl; sync = refl; ibisync = refl; cmdrpending = refl; ibipending = refl; daapending = refl; burst = refl }
+control-after Ibi b c h = record { held = refl; sync = refl; ibisync = refl; cmdrpending = refl; ibipending = cleared-if b (c .ibipending); daapending = refl; burst = refl }
 
 only-takes : (q : Queue) → of q (only q (take 1)) ≡ take 1
 only-takes Cmd = refl
@@ -200,7 +210,7 @@ one-less l q f z h =
 
 took : (l : Controller) (q : Queue) → wellFormed (l .bank) ≡ true → RightLength l → same Sdo q ≡ false → eqb (of q (viewRings l .queues) .level) 0 ≡ false → (let e = effect (read (takes q) (viewRings l)) in ReadTook l (settleRings l e) (e .value) q)
 took l q f z h k =
-    record { first = first-of l q; words = one-less l q f z k; store = take-stores-none l q; regs = refl; phase = refl; flags = refl; commands = refl; payloads = refl; control = control-after q _ (l .bank .state .control) h }
+    record { first = first-of l q; words = one-less l q f z k; store = take-stores-none l q; output = refl; regs = refl; phase = refl; flags = refl; commands = refl; payloads = refl; control = control-after q _ (l .bank .state .control) h }
 
 pub read-takes-one : ReadTakesOne
 unfolding ReadTakesOne
@@ -236,16 +246,18 @@ queues-none q st h =
 control-none : (c : Control) → controlClear c ≡ true → released c ≡ cleared false
 unfolding controlClear
 control-none c h =
-    let z = five (eqb (c .sync) 0) (eqb (c .ibisync) 0) (not (c .cmdrpending)) (not (c .ibipending)) (not (c .daapending)) h in
+    let y = and-true (eqb (c .sync) 0 && eqb (c .ibisync) 0 && not (c .cmdrpending) && not (c .ibipending) && not (c .daapending)) (eqb (c .burst) 0) h in
+    let z = five (eqb (c .sync) 0) (eqb (c .ibisync) 0) (not (c .cmdrpending)) (not (c .ibipending)) (not (c .daapending)) (y .0) in
+    let d = eqb-true (c .burst) 0 (y .1) in
     let a = eqb-true (c .sync) 0 (z .0) in
     let b = eqb-true (c .ibisync) 0 (z .1) in
-    λ i. record { held = false; sync = a i; ibisync = b i; cmdrpending = not-true (c .cmdrpending) (z .2) i; ibipending = not-true (c .ibipending) (z .3) i; daapending = not-true (c .daapending) (z .4) i }
+    λ i. record { held = false; sync = a i; ibisync = b i; cmdrpending = not-true (c .cmdrpending) (z .2) i; ibipending = not-true (c .ibipending) (z .3) i; daapending = not-true (c .daapending) (z .4) i; burst = d i }
 
 while-held : (held rest : Bool) → held ≡ true → (not held || rest) ≡ true → rest ≡ true
 while-held true rest h e = e
 while-held false rest h e = absurd (false≢true h)
 
-all-clear : (l : Controller) → wellFormed (l .bank) ≡ true → l .bank .state .control .held ≡ true → (let s = l .bank .state in (queuesClear (s .queues) ≡ true) × (controlClear (s .control) ≡ true) × (idle (s .phase) ≡ true))
+pub all-clear : (l : Controller) → wellFormed (l .bank) ≡ true → l .bank .state .control .held ≡ true → (let s = l .bank .state in (queuesClear (s .queues) ≡ true) × (controlClear (s .control) ≡ true) × (idle (s .phase) ≡ true))
 unfolding resetOk
 all-clear l f h = let s = l .bank .state in three (queuesClear (s .queues)) (controlClear (s .control)) (idle (s .phase)) (while-held (s .control .held) (queuesClear (s .queues) && controlClear (s .control) && idle (s .phase)) h (formed-of (l .bank) f .reset))
 
@@ -281,38 +293,52 @@ pub record SameRun (l m : Controller) : Type 0 where
   pub phase : m .bank .state .phase ≡ l .bank .state .phase
   pub sync : m .bank .state .control .sync ≡ l .bank .state .control .sync
   pub held : m .bank .state .control .held ≡ l .bank .state .control .held
+  pub burst : m .bank .state .control .burst ≡ l .bank .state .control .burst
 
 abbrev SameCount : Control → Control → Type 0
-SameCount c d = (c .sync ≡ d .sync) × (c .held ≡ d .held)
+SameCount c d = (c .sync ≡ d .sync) × (c .held ≡ d .held) × (c .burst ≡ d .burst)
 
 clears-count : (q : Queue) (b : Bool) (c : Control) → SameCount (clears q b c) c
-clears-count Cmd b c = (refl, refl)
-clears-count Cmdr b c = (refl, refl)
-clears-count Sdo b c = (refl, refl)
-clears-count Sdi b c = (refl, refl)
-clears-count Ibi b c = (refl, refl)
+clears-count Cmd b c = (refl, refl, refl)
+clears-count Cmdr b c = (refl, refl, refl)
+clears-count Sdo b c = (refl, refl, refl)
+clears-count Sdi b c = (refl, refl, refl)
+clears-count Ibi b c = (refl, refl, refl)
 
 read-count : (s : View) (x : Row) → SameCount (effect (read x s) .control) (s .control)
-read-count s absent = (refl, refl)
-read-count s (shows f) = (refl, refl)
-read-count s (holds c) = (refl, refl)
-read-count s (pushes q) = (refl, refl)
+read-count s absent = (refl, refl, refl)
+read-count s (shows f) = (refl, refl, refl)
+read-count s (holds c) = (refl, refl, refl)
+read-count s (pushes q) = (refl, refl, refl)
 read-count s (takes q) = clears-count q _ (s .control)
-read-count s enables = (refl, refl)
-read-count s acknowledges = (refl, refl)
+read-count s enables = (refl, refl, refl)
+read-count s acknowledges = (refl, refl, refl)
 
 read-keeps : (l : Controller) (o : ℕ) → SameRun l (step rings l (Read o) .next)
 read-keeps l o =
-    by-outcome (λ r. SameRun l (r .next)) l (Read o) (λ n k. record { phase = refl; sync = refl; held = refl })
-    (λ f z p. let k = read-count (viewRings l) (row (registerAt o)) in record { phase = read-untouched (viewRings l) (row (registerAt o)) .phaseSame; sync = k .0; held = k .1 })
+    by-outcome (λ r. SameRun l (r .next)) l (Read o) (λ n k. record { phase = refl; sync = refl; held = refl; burst = refl })
+    (λ f z p. let k = read-count (viewRings l) (row (registerAt o)) in record { phase = read-untouched (viewRings l) (row (registerAt o)) .phaseSame; sync = k .0; held = k .1; burst = k .2 })
 
-reads-keep : (os : List ℕ) (l : Controller) → SameRun l (final rings l (reads os))
-unfolding final
-reads-keep [] l = record { phase = refl; sync = refl; held = refl }
-reads-keep (o ∷ os) l =
-    let a = read-keeps l o in
-    let b = reads-keep os (step rings l (Read o) .next) in
-    record { phase = b .phase ∙ a .phase; sync = b .sync ∙ a .sync; held = b .held ∙ a .held }
+reads-keep : (os : List ℕ) (w : List ℕ) (l : Controller) → SameRun l (final rings l (lending w (reads os)))
+unfolding final lending
+reads-keep [] w l = record { phase = refl; sync = refl; held = refl; burst = refl }
+reads-keep (o ∷ os) w l =
+    let m = rings .lend w l in
+    let a = read-keeps m o in
+    let b = reads-keep os w (step rings m (Read o) .next) in
+    record { phase = b .phase ∙ a .phase; sync = b .sync ∙ a .sync; held = b .held ∙ a .held; burst = b .burst ∙ a .burst }
+
+-- outside a burst the finish decides as 01 says
+direct-finish : (s : View) (code : ℕ) → bursting (s .control) ≡ false → decide s (Finish code) ≡ (ltb 15 code ⇒ 18 ∣ false ⇒ 13 ∣ finish s code)
+unfolding short
+direct-finish s code e = rw e
+
+abbrev decidedBy : Controller → Decision → Step Controller
+decidedBy l d = let g = guardRings l d in outcome (first g) (effect g) l (settleRings l (effect g))
+
+finished-by : (l : Controller) (code : ℕ) → bursting (l .bank .state .control) ≡ false → step rings l (Finish code) ≡ decidedBy l (ltb 15 code ⇒ 18 ∣ false ⇒ 13 ∣ finish (viewRings l) code)
+unfolding step
+finished-by l code e = ap (decidedBy l) (direct-finish (viewRings l) code e)
 
 -- the tests of a finish, and what is known where the last alone holds
 abbrev tests : Bool → Bool → Bool → Bool → Bool → Bool → Bool → Effect → Decision
@@ -335,32 +361,33 @@ by-room false x l m v z e = λ i. record { value = e i; number = z i }
 by-tests : (a b c d e f g : Bool) (x : Effect) (l m : Controller) (v : ℕ) → x .number ≡ 0 → x .value ≡ v → a ≡ false → b ≡ false → c ≡ false → d ≡ false → e ≡ false → f ≡ false → outcome (first (tests a b c d e f g x)) x l m .answer ≡ cond g (record { value = 0; number = 13 }) (record { value = v; number = 0 })
 by-tests a b c d e f g x l m v z w ha hb hc hd he hf = rw (ha, hb, hc, hd, he, hf) (by-room g x l m v z w)
 
-again : (l m : Controller) (code : ℕ) → SameRun l m → wellFormed (m .bank) ≡ true → RightLength m → (let s = l .bank .state in (ltb 15 code ≡ false) × (s .control .held ≡ false) × (idle (s .phase) ≡ false) × (not (allowed (s .phase) code) ≡ false))
+again : (l m : Controller) (code : ℕ) → bursting (l .bank .state .control) ≡ false → SameRun l m → wellFormed (m .bank) ≡ true → RightLength m → (let s = l .bank .state in (ltb 15 code ≡ false) × (s .control .held ≡ false) × (idle (s .phase) ≡ false) × (not (allowed (s .phase) code) ≡ false))
     → step rings m (Finish code) .answer ≡ cond (noRoom (viewRings m)) (record { value = 0; number = 13 }) (record { value = receiptWord code (transfer (l .bank .state .phase) .moved .0) (l .bank .state .control .sync); number = 0 })
-unfolding step guardRings finish
-again l m code k f z h =
+unfolding guardRings finish
+again l m code n k f z h =
     let s = m .bank .state in
     let word = ap (λ (p : Phase). receiptWord code (transfer p .moved .0) (s .control .sync)) (k .phase) ∙ ap (receiptWord code (transfer (l .bank .state .phase) .moved .0)) (k .sync) in
     let x = effect (finish (viewRings m) code) in
-    by-tests (not (wellFormed (m .bank))) (not (eqb (length (m .store)) (total (s .queues)))) (ltb 15 code) (s .control .held) (idle (s .phase)) (not (allowed (s .phase) code)) (noRoom (viewRings m)) x m (settleRings m x) _ refl word
+    ap (λ (r : Step Controller). r .answer) (finished-by m code (ap (λ (b : ℕ). not (eqb b 0)) (k .burst) ∙ n))
+    ∙ by-tests (not (wellFormed (m .bank))) (not (eqb (length (m .store)) (total (s .queues)))) (ltb 15 code) (s .control .held) (idle (s .phase)) (not (allowed (s .phase) code)) (noRoom (viewRings m)) x m (settleRings m x) _ refl word
     (ap not f) (ap not (eq-eqb (length (m .store)) (total (s .queues)) z)) (h .0) (k .held ∙ h .1) (ap idle (k .phase) ∙ h .2) (ap (λ (p : Phase). not (allowed p code)) (k .phase) ∙ h .3)
 
-finish-tests : (l : Controller) (code : ℕ) → step rings l (Finish code) .answer .number ≡ 13 → (wellFormed (l .bank) ≡ true) × RightLength l × (let s = l .bank .state in (ltb 15 code ≡ false) × (s .control .held ≡ false) × (idle (s .phase) ≡ false) × (not (allowed (s .phase) code) ≡ false))
-unfolding step guardRings finish
-finish-tests l code n =
+finish-tests : (l : Controller) (code : ℕ) → bursting (l .bank .state .control) ≡ false → step rings l (Finish code) .answer .number ≡ 13 → (wellFormed (l .bank) ≡ true) × RightLength l × (let s = l .bank .state in (ltb 15 code ≡ false) × (s .control .held ≡ false) × (idle (s .phase) ≡ false) × (not (allowed (s .phase) code) ≡ false))
+unfolding guardRings finish
+finish-tests l code b n =
     let s = l .bank .state in
     let x = effect (finish (viewRings l) code) in
     let e = eqb (length (l .store)) (total (s .queues)) in
-    let h = last-alone (not (wellFormed (l .bank))) (not e) (ltb 15 code) (s .control .held) (idle (s .phase)) (not (allowed (s .phase) code)) (noRoom (viewRings l)) x l (settleRings l x) refl n in
+    let h = last-alone (not (wellFormed (l .bank))) (not e) (ltb 15 code) (s .control .held) (idle (s .phase)) (not (allowed (s .phase) code)) (noRoom (viewRings l)) x l (settleRings l x) refl (sym (ap (λ (r : Step Controller). r .answer .number) (finished-by l code b)) ∙ n) in
     (not-false (wellFormed (l .bank)) (h .0), eqb-true (length (l .store)) (total (s .queues)) (not-false e (h .1)), (h .2, h .3, h .4, h .5))
 
 pub refused-finish-again : RefusedFinishAgain
 unfolding RefusedFinishAgain RefusalChangesNothing
-refused-finish-again l code os n =
+refused-finish-again l code os b n =
     let same = refusal-changes-nothing l (Finish code) (λ e. absurd (omega (arith, n, e))) (λ e. absurd (omega (arith, n, e))) .0 in
-    let h = finish-tests l code n in
-    let s = same-final (reads os) l (listed l) (record { is = refl; formed = formed-of (l .bank) (h .0); size = h .1 }) in
+    let h = finish-tests l code b n in
+    let s = same-final (lending (l .output) (reads os)) l (listed l) (record { is = refl; formed = formed-of (l .bank) (h .0); size = h .1 }) in
     subst
-    (λ (p : Controller). (let m = final rings p (reads os) in step rings m (Finish code) .answer ≡ cond (noRoom (viewRings m)) (record { value = 0; number = 13 }) (record { value = receiptWord code (transfer (l .bank .state .phase) .moved .0) (l .bank .state .control .sync); number = 0 })))
+    (λ (p : Controller). (let m = final rings p (lending (l .output) (reads os)) in step rings m (Finish code) .answer ≡ cond (noRoom (viewRings m)) (record { value = 0; number = 13 }) (record { value = receiptWord code (transfer (l .bank .state .phase) .moved .0) (l .bank .state .control .sync); number = 0 })))
     (sym same)
-    (again l (final rings l (reads os)) code (reads-keep os l) (formed-is (final rings l (reads os) .bank) (s .formed)) (s .size) (h .2))
+    (again l (final rings l (lending (l .output) (reads os))) code b (reads-keep os (l .output) l) (formed-is (final rings l (lending (l .output) (reads os)) .bank) (s .formed)) (s .size) (h .2))

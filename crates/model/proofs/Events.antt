@@ -5,7 +5,7 @@ use mathlib.Core.Path.{_≡_, refl, ap, sym, _∙_, subst}
 use mathlib.Core.Bool.{Bool, true, false, cond, not, true≢false, false≢true}
 use mathlib.Core.List.{List, [], _∷_}
 use mathlib.Core.Option.{Option, none, some, Option·none-ne-some}
-use lib.Dec.{leb, eqb}
+use lib.Dec.{leb, ltb, eqb}
 use lib.ListN.{length, getD, drop}
 use lib.Count.{ones}
 use borrow.Author.Tests.{ltb-false, leb-true, leb-false, eqb-true, not-false}
@@ -15,13 +15,14 @@ use Rattle.bank.specs.declared.Phase.the-variants.{Writing, Reading, Requested,
 use Rattle.bank.specs.Phases.{idle, writing, reading, assigning, requested, transfer}
 use Rattle.bank.proofs.Bools.{or-left}
 use Rattle.registers.specs.Map.{named, find, registerAt}
-use Rattle.model.specs.View.{bit, Cmd, Cmdr, Sdo, Sdi, Ibi}
+use Rattle.bank.specs.Bits.{bit}
+use Rattle.model.specs.View.{Cmd, Cmdr, Sdo, Sdi, Ibi}
 use Rattle.model.specs.Decision.{first, effect}
 use Rattle.model.specs.Commands.{Command, firstWord, lengthOf, receiptWord}
 use Rattle.model.specs.Registers.{Row, absent, shows, holds, pushes, takes, enables, acknowledges, row, enable, read, write}
 use Rattle.model.specs.Calls.{command, advanced, start, send, receive, finish, interrupt, request, takeAddress}
 use Rattle.model.specs.Lists.{Lists, viewList, viewLists, settleLists}
-use Rattle.model.specs.Demand.{Event, enabled, word, wrote, sawRoom, bus, started, sent, received, addressed, finished, gotReceipt, other, Tally, Run, follow, writeEvent, readEvent, countRun, change, nothing, moved, Fitting, Every, takenWords, joined, Each}
+use Rattle.model.specs.Demand.{Event, enabled, word, wrote, sawRoom, bus, started, sent, received, addressed, finished, gotReceipt, other, Tally, Run, follow, directPhase, writeEvent, readEvent, countRun, change, nothing, moved, Fitting, Every, takenWords, joined, Each}
 use Rattle.model.proofs.Tests.{Passed}
 use Rattle.model.proofs.Phases.{writing-is, reading-is, requested-assigns, neither}
 use Rattle.model.proofs.Invariant.{OpenAs, Done, Inv, inv-took, inv-lost, inv-room, inv-start, inv-move, inv-finish, inv-got}
@@ -36,8 +37,16 @@ pub record Key : Type 0 where
   pub cmdr : List ℕ
   pub sync : ℕ
 
+abbrev pub keyAt : Phase → Lists → Key
+keyAt p l = record { held = l .control .held; cap = l .queues .cmd .cap; phase = p; cmd = l .queues .cmd .words; cmdr = l .queues .cmdr .words; sync = l .control .sync }
+
+-- while a burst is open no direct transfer is
 abbrev pub key : Lists → Key
-key l = record { held = l .control .held; cap = l .queues .cmd .cap; phase = l .phase; cmd = l .queues .cmd .words; cmdr = l .queues .cmdr .words; sync = l .control .sync }
+key l = keyAt (directPhase (l .control) (l .phase)) l
+
+-- outside a burst
+abbrev pub direct : Lists → Key
+direct l = keyAt (l .phase) l
 
 -- held in reset, all is empty
 pub record HeldIn (k : Key) : Type 0 where
@@ -117,56 +126,56 @@ run-good : (t : Tally) (k : Key) (p : Phase) (f : Run → Run) → idle (k .phas
     → Running (record { words = t .words; past = t .past; now = change f (t .now); receipts = t .receipts }) (record { held = k .held; cap = k .cap; phase = p; cmd = k .cmd; cmdr = k .cmdr; sync = k .sync })
 run-good t k p f i m g = record { isReleased = g .isReleased; inv = inv-move (t .words) (t .past) (t .receipts) (k .cap) (k .phase) (k .cmd) (k .cmdr) (k .sync) (t .now) p f i m (g .inv) }
 
-pub send-good : (o : Option Tally) (l : Lists) → Passed (send (viewLists l)) → Good o (key l) → Good (follow o (bus sent)) (key (settleLists l (effect (send (viewLists l)))))
+pub send-good : (o : Option Tally) (l : Lists) → Passed (send (viewLists l)) → Good o (direct l) → Good (follow o (bus sent)) (direct (settleLists l (effect (send (viewLists l)))))
 unfolding send
-send-good none l f g = absurd (not-held (key l) g (f .0))
+send-good none l f g = absurd (not-held (direct l) g (f .0))
 send-good (some t) l f g =
     let e = writing-is (l .phase) (not-false (writing (l .phase)) (f .1 .1 .1 .0)) in
-    run-good t (key l) _ (countRun sent) (f .1 .0) (λ r c o. sent-open r c (transfer (l .phase)) _ (f .1 .1 .1 .1 .0) (subst (OpenAs r c) e o)) g
+    run-good t (direct l) _ (countRun sent) (f .1 .0) (λ r c o. sent-open r c (transfer (l .phase)) _ (f .1 .1 .1 .1 .0) (subst (OpenAs r c) e o)) g
 
-pub receive-good : (o : Option Tally) (l : Lists) (b : ℕ) → Passed (receive (viewLists l) b) → Good o (key l) → Good (follow o (bus received)) (key (settleLists l (effect (receive (viewLists l) b))))
+pub receive-good : (o : Option Tally) (l : Lists) (b : ℕ) → Passed (receive (viewLists l) b) → Good o (direct l) → Good (follow o (bus received)) (direct (settleLists l (effect (receive (viewLists l) b))))
 unfolding receive
-receive-good none l b f g = absurd (not-held (key l) g (f .0))
+receive-good none l b f g = absurd (not-held (direct l) g (f .0))
 receive-good (some t) l b f g =
     let e = reading-is (l .phase) (not-false (reading (l .phase)) (f .1 .1 .1 .0)) in
-    run-good t (key l) _ (countRun received) (f .1 .0) (λ r c o. received-open r c (transfer (l .phase)) _ (f .1 .1 .1 .1 .0) (subst (OpenAs r c) e o)) g
+    run-good t (direct l) _ (countRun received) (f .1 .0) (λ r c o. received-open r c (transfer (l .phase)) _ (f .1 .1 .1 .1 .0) (subst (OpenAs r c) e o)) g
 
-pub request-good : (o : Option Tally) (l : Lists) (v w : ℕ) → Passed (request (viewLists l) v w) → Good o (key l) → Good (follow o (bus addressed)) (key (settleLists l (effect (request (viewLists l) v w))))
+pub request-good : (o : Option Tally) (l : Lists) (v w : ℕ) → Passed (request (viewLists l) v w) → Good o (direct l) → Good (follow o (bus addressed)) (direct (settleLists l (effect (request (viewLists l) v w))))
 unfolding request
-request-good none l v w f g = absurd (not-held (key l) g (f .0))
+request-good none l v w f g = absurd (not-held (direct l) g (f .0))
 request-good (some t) l v w f g =
     let a = not-false (assigning (l .phase)) (or-left (not (assigning (l .phase))) (requested (l .phase)) (f .1 .1 .0)) in
-    run-good t (key l) _ (countRun addressed) (f .1 .0) (λ r c o. addressed-open r c (l .phase) (Requested (transfer (l .phase))) a refl refl refl o) g
+    run-good t (direct l) _ (countRun addressed) (f .1 .0) (λ r c o. addressed-open r c (l .phase) (Requested (transfer (l .phase))) a refl refl refl o) g
 
 -- an address taken well, or with a wrong parity bit
 taken-open : (b : Bool) (r : Run) (c : Command) (p : Phase) → assigning p ≡ true → OpenAs r c p → OpenAs (countRun addressed r) c (cond b (Answered (transfer p)) (Requested (transfer p)))
 taken-open true r c p a o = addressed-open r c p (Answered (transfer p)) a refl refl refl o
 taken-open false r c p a o = addressed-open r c p (Requested (transfer p)) a refl refl refl o
 
-pub take-good : (o : Option Tally) (l : Lists) → Passed (takeAddress (viewLists l)) → Good o (key l) → Good (follow o (bus addressed)) (key (settleLists l (effect (takeAddress (viewLists l)))))
+pub take-good : (o : Option Tally) (l : Lists) → Passed (takeAddress (viewLists l)) → Good o (direct l) → Good (follow o (bus addressed)) (direct (settleLists l (effect (takeAddress (viewLists l)))))
 unfolding takeAddress
-take-good none l f g = absurd (not-held (key l) g (f .0))
+take-good none l f g = absurd (not-held (direct l) g (f .0))
 take-good (some t) l f g =
     let a = requested-assigns (l .phase) (not-false (requested (l .phase)) (f .1 .1 .0)) in
-    run-good t (key l) _ (countRun addressed) (f .1 .0) (λ r c o. taken-open (eqb (ones (getD (l .queues .sdo .words) 0 0 / 2 ^ 24) % 2) 1) r c (l .phase) a o) g
+    run-good t (direct l) _ (countRun addressed) (f .1 .0) (λ r c o. taken-open (eqb (ones (getD (l .queues .sdo .words) 0 0 / 2 ^ 24) % 2) 1) r c (l .phase) a o) g
 
 -- ── Start, finish, interrupt ──────────────────────────────────────────────────────────────────────────────────
-pub start-good : (o : Option Tally) (l : Lists) → Passed (start (viewLists l)) → Good o (key l) → Good (follow o (bus (started (firstWord (command (viewList (l .queues .cmd))))))) (key (settleLists l (effect (start (viewLists l)))))
+pub start-good : (o : Option Tally) (l : Lists) → Passed (start (viewLists l)) → Good o (direct l) → Good (follow o (bus (started (firstWord (command (viewList (l .queues .cmd))))))) (direct (settleLists l (effect (start (viewLists l)))))
 unfolding start
-start-good none l f g = absurd (not-held (key l) g (f .0))
+start-good none l f g = absurd (not-held (direct l) g (f .0))
 start-good (some t) l f g =
     record {
       isReleased = g .isReleased;
       inv = inv-start (t .words) (t .past) (t .receipts) (l .queues .cmd .cap) (l .phase) (l .queues .cmd .words) (l .queues .cmdr .words) (l .control .sync) (t .now) (l .queues .cmd .mark) _ (not-false _ (f .1 .0)) (not-false _ (f .1 .1 .1 .0)) (g .inv);
     }
 
-pub finish-good : (o : Option Tally) (l : Lists) (code : ℕ) → Passed (finish (viewLists l) code) → Good o (key l) → Good (follow o (bus (finished code (receiptWord code (transfer (l .phase) .moved .0) (l .control .sync))))) (key (settleLists l (effect (finish (viewLists l) code))))
+pub finish-good : (o : Option Tally) (l : Lists) (code : ℕ) → ltb 15 code ≡ false → Passed (finish (viewLists l) code) → Good o (direct l) → Good (follow o (bus (finished code (receiptWord code (transfer (l .phase) .moved .0) (l .control .sync))))) (direct (settleLists l (effect (finish (viewLists l) code))))
 unfolding finish
-finish-good none l code f g = absurd (not-held (key l) g (f .1 .0))
-finish-good (some t) l code f g =
+finish-good none l code r f g = absurd (not-held (direct l) g (f .0))
+finish-good (some t) l code r f g =
     record {
       isReleased = g .isReleased;
-      inv = inv-finish (t .words) (t .past) (t .receipts) (l .queues .cmd .cap) (l .phase) (l .queues .cmd .words) (l .queues .cmdr .words) (l .control .sync) (t .now) code (let d = ltb-false 15 code (f .0) in omega arith) (f .1 .1 .0) (g .inv);
+      inv = inv-finish (t .words) (t .past) (t .receipts) (l .queues .cmd .cap) (l .phase) (l .queues .cmd .words) (l .queues .cmdr .words) (l .control .sync) (t .now) code (let d = ltb-false 15 code r in omega arith) (f .1 .0) (g .inv);
     }
 
 pub interrupt-good : (o : Option Tally) (l : Lists) (a b : ℕ) → Good o (key l) → Good (follow o other) (key (settleLists l (effect (interrupt (viewLists l) a b))))
@@ -180,7 +189,7 @@ nonempty (w ∷ q) e = refl
 
 room-good : (o : Option Tally) (l : Lists) → Good o (key l) → Good (follow o (word (sawRoom (l .queues .cmd .cap - length (l .queues .cmd .words))))) (key l)
 room-good none l g = g
-room-good (some t) l g = record { isReleased = g .isReleased; inv = inv-room (t .words) (t .past) (t .receipts) (l .queues .cmd .cap) (l .phase) (l .queues .cmd .words) (l .queues .cmdr .words) (l .control .sync) (t .now) (g .inv) }
+room-good (some t) l g = record { isReleased = g .isReleased; inv = inv-room (t .words) (t .past) (t .receipts) (l .queues .cmd .cap) (key l .phase) (l .queues .cmd .words) (l .queues .cmdr .words) (l .control .sync) (t .now) (g .inv) }
 
 receipt-good : (o : Option Tally) (l : Lists) → eqb (length (l .queues .cmdr .words)) 0 ≡ false → Good o (key l) → Good (follow o (gotReceipt (getD (l .queues .cmdr .words) 0 0))) (key (settleLists l (effect (read (takes Cmdr) (viewLists l)))))
 receipt-good none l f g = record { isHeld = g .isHeld; isIdle = g .isIdle; noCommands = g .noCommands; noReceipts = ap (λ (q : List ℕ). drop 1 q) (g .noReceipts); noSync = g .noSync }
@@ -188,7 +197,7 @@ receipt-good (some t) l f g =
     let q = l .queues .cmdr .words in
     record {
       isReleased = g .isReleased;
-      inv = inv-got (t .words) (t .past) (t .now) (t .receipts) (l .queues .cmd .cap) (l .phase) (l .queues .cmd .words) (drop 1 q) (getD q 0 0) (l .control .sync) (subst (λ (x : List ℕ). Inv (t .words) (t .past) (t .now) (t .receipts) (l .queues .cmd .cap) (l .phase) (l .queues .cmd .words) x (l .control .sync)) (nonempty q f) (g .inv));
+      inv = inv-got (t .words) (t .past) (t .now) (t .receipts) (l .queues .cmd .cap) (key l .phase) (l .queues .cmd .words) (drop 1 q) (getD q 0 0) (l .control .sync) (subst (λ (x : List ℕ). Inv (t .words) (t .past) (t .now) (t .receipts) (l .queues .cmd .cap) (key l .phase) (l .queues .cmd .words) x (l .control .sync)) (nonempty q f) (g .inv));
     }
 
 quiet-read : (l : Lists) (x : Row) → quietRead x ≡ true → key l ≡ key (settleLists l (effect (read x (viewLists l))))
@@ -256,7 +265,7 @@ enable-good (some t) l false g = record { isReleased = refl; inv = g .inv }
 
 took-good : (o : Option Tally) (l : Lists) (v : ℕ) → l .control .held ≡ false → Good o (key l) → Good (follow o (word (wrote true v))) (key (settleLists l (effect (write (pushes Cmd) (viewLists l) v))))
 took-good none l v f g = absurd (not-held (key l) g f)
-took-good (some t) l v f g = record { isReleased = g .isReleased; inv = inv-took (t .words) (t .past) (t .receipts) (l .queues .cmd .cap) (l .phase) (l .queues .cmd .words) (l .queues .cmdr .words) (l .control .sync) (t .now) v (g .inv) }
+took-good (some t) l v f g = record { isReleased = g .isReleased; inv = inv-took (t .words) (t .past) (t .receipts) (l .queues .cmd .cap) (key l .phase) (l .queues .cmd .words) (l .queues .cmdr .words) (l .control .sync) (t .now) v (g .inv) }
 
 quiet-write : (l : Lists) (x : Row) (v : ℕ) → quietWrite x ≡ true → key l ≡ key (settleLists l (effect (write x (viewLists l) v)))
 quiet-write l absent v h = refl
@@ -293,7 +302,7 @@ lost-good : (o : Option Tally) (l : Lists) (v n : ℕ) → first (write (pushes 
 lost-good none l v n e g = g
 lost-good (some t) l v n e g =
     let z = leb-true (l .queues .cmd .cap) (length (l .queues .cmd .words)) (full-test (l .control .held) (leb (l .queues .cmd .cap) (length (l .queues .cmd .words))) n (g .isReleased) e) in
-    record { isReleased = g .isReleased; inv = inv-lost (t .words) (t .past) (t .receipts) (l .queues .cmd .cap) (l .phase) (l .queues .cmd .words) (l .queues .cmdr .words) (l .control .sync) (t .now) v z (g .inv) }
+    record { isReleased = g .isReleased; inv = inv-lost (t .words) (t .past) (t .receipts) (l .queues .cmd .cap) (key l .phase) (l .queues .cmd .words) (l .queues .cmdr .words) (l .control .sync) (t .now) v z (g .inv) }
 
 pub write-refused : (o : Option Tally) (l : Lists) (off v n : ℕ) → first (write (row (registerAt off)) (viewLists l) v) ≡ some n → Good o (key l) → Good (follow o (writeEvent off v false)) (key l)
 unfolding named find

@@ -16,20 +16,23 @@ use Rattle.bank.specs.declared.Transfer.{Transfer}
 use Rattle.bank.specs.declared.Phase.{Phase}
 use Rattle.bank.specs.declared.Phase.the-variants.{Idle, Writing, Reading, Unrequested, Requested, Answered}
 use Rattle.bank.specs.Phases.{idle, writing, reading, assigning, requested, transfer, unattached, limit, partBytes}
+use Rattle.bank.specs.Bursts.{bursting}
 use Rattle.bank.specs.SetUp.{sizeOk}
 use Rattle.bank.specs.Formed.{ringOk, queuesOk, regsOk, flagsOk, phaseOk, ringClear, queuesClear, controlClear, resetOk}
 use Rattle.bank.proofs.Bools.{or-left, and-true, true-and, three, five, all-three, all-five}
 use Rattle.bank.proofs.Laws.{ring-valid, rings-of, rings-are}
 use Rattle.registers.specs.Map.{registerAt}
 use Rattle.model.specs.declared.Call.{Call}
-use Rattle.model.specs.declared.Call.the-variants.{Read, Write, Start, Send, Receive, Finish, Interrupt, Request, Take}
-use Rattle.model.specs.View.{bit, bits, Queue, Cmd, Cmdr, Sdo, Sdi, Ibi, Five, of, Tables, View}
-use Rattle.model.specs.Decision.{QueueOp, effect}
+use Rattle.model.specs.declared.Call.the-variants.{Read, Write, Start, Send, Receive, Finish, Interrupt, Request, Take, Trigger}
+use Rattle.bank.specs.Bits.{bit, bits}
+use Rattle.model.specs.View.{Queue, Cmd, Cmdr, Sdo, Sdi, Ibi, Five, of, Tables, View}
+use Rattle.model.specs.Decision.{QueueOp, Decision, effect}
 use Rattle.model.specs.Commands.{Command, firstWord, isEntdaa, isRead, lengthOf, opened, begun}
 use Rattle.model.specs.Registers.{Cell, scratch, mask, ops, ibiConfig, devChar, offloadCmd, offloadSdo, Row, absent, shows, holds, pushes, takes, enables, acknowledges, row, storedRegs, storedTables, pending, clears, enable, read, write}
-use Rattle.model.specs.Calls.{command, attached, advanced, fresh, fills, decide, start, send, receive, finish, interrupt, request, takeAddress}
+use Rattle.model.specs.Calls.{command, attached, advanced, fresh, fills, start, send, receive, finish, interrupt, request, takeAddress}
+use Rattle.model.specs.Bursts.{trigger, burstSend, burstReceive, burstFinish, decide}
 use Rattle.model.specs.Rings.{Controller, viewQueues, viewRings, onRing, onRings}
-use Rattle.model.proofs.Tests.{Passed}
+use Rattle.model.proofs.Tests.{Passed, of-two}
 use Rattle.model.proofs.Room.{Fits, AllFit}
 use Rattle.model.proofs.Rings.{cap-same, mark-same, valid-op}
 use Rattle.model.proofs.Phases.{writing-is, reading-is, requested-assigns}
@@ -56,19 +59,27 @@ queues-kept q st o f h =
     })
 
 -- ── What a row leaves alone ───────────────────────────────────────────────────────────────────────────────────
-pub record Untouched (s : View) (regs : Regs) (tables : Tables) (phase : Phase) : Type 0 where
+pub record Untouched (s : View) (regs : Regs) (tables : Tables) (phase : Phase) (control : Control) : Type 0 where
   pub regsSame : regs ≡ s .regs
   pub tablesSame : tables ≡ s .tables
   pub phaseSame : phase ≡ s .phase
+  pub burstSame : control .burst ≡ s .control .burst
 
-pub read-untouched : (s : View) (x : Row) → (let e = effect (read x s) in Untouched s (e .regs) (e .tables) (e .phase))
-read-untouched s absent = record { regsSame = refl; tablesSame = refl; phaseSame = refl }
-read-untouched s (shows f) = record { regsSame = refl; tablesSame = refl; phaseSame = refl }
-read-untouched s (holds c) = record { regsSame = refl; tablesSame = refl; phaseSame = refl }
-read-untouched s (pushes q) = record { regsSame = refl; tablesSame = refl; phaseSame = refl }
-read-untouched s (takes q) = record { regsSame = refl; tablesSame = refl; phaseSame = refl }
-read-untouched s enables = record { regsSame = refl; tablesSame = refl; phaseSame = refl }
-read-untouched s acknowledges = record { regsSame = refl; tablesSame = refl; phaseSame = refl }
+pub clears-burst : (q : Queue) (b : Bool) (c : Control) → clears q b c .burst ≡ c .burst
+clears-burst Cmd b c = refl
+clears-burst Cmdr b c = refl
+clears-burst Sdo b c = refl
+clears-burst Sdi b c = refl
+clears-burst Ibi b c = refl
+
+pub read-untouched : (s : View) (x : Row) → (let e = effect (read x s) in Untouched s (e .regs) (e .tables) (e .phase) (e .control))
+read-untouched s absent = record { regsSame = refl; tablesSame = refl; phaseSame = refl; burstSame = refl }
+read-untouched s (shows f) = record { regsSame = refl; tablesSame = refl; phaseSame = refl; burstSame = refl }
+read-untouched s (holds c) = record { regsSame = refl; tablesSame = refl; phaseSame = refl; burstSame = refl }
+read-untouched s (pushes q) = record { regsSame = refl; tablesSame = refl; phaseSame = refl; burstSame = refl }
+read-untouched s (takes q) = record { regsSame = refl; tablesSame = refl; phaseSame = refl; burstSame = clears-burst q _ (s .control) }
+read-untouched s enables = record { regsSame = refl; tablesSame = refl; phaseSame = refl; burstSame = refl }
+read-untouched s acknowledges = record { regsSame = refl; tablesSame = refl; phaseSame = refl; burstSame = refl }
 
 -- ── Registers and flags ───────────────────────────────────────────────────────────────────────────────────────
 regs-ok : (g : Regs) → ltb (g .ops) 128 ≡ true → ltb (g .config) 4 ≡ true → ltb (g .selected) 128 ≡ true → regsOk g ≡ true
@@ -130,17 +141,21 @@ write-kept s acknowledges v h = h
 read-kept : (s : View) (x : Row) → RegsFlags (s .regs) (s .tables .flags) → (let e = effect (read x s) in RegsFlags (e .regs) (e .tables .flags))
 read-kept s x h = let u = read-untouched s x in rw (u .regsSame, u .tablesSame) h
 
-pub regs-flags-kept : (s : View) (c : Call) → RegsFlags (s .regs) (s .tables .flags) → (let e = effect (decide s c) in RegsFlags (e .regs) (e .tables .flags))
-unfolding start send receive finish interrupt request takeAddress
+abbrev KeepsRegsFlags : View → Decision → Type 0
+KeepsRegsFlags s d = RegsFlags (effect d .regs) (effect d .tables .flags)
+
+pub regs-flags-kept : (s : View) (c : Call) → RegsFlags (s .regs) (s .tables .flags) → KeepsRegsFlags s (decide s c)
+unfolding start send receive finish interrupt request takeAddress trigger burstSend burstReceive burstFinish
 regs-flags-kept s (Read o) h = read-kept s (row (registerAt o)) h
 regs-flags-kept s (Write o v) h = write-kept s (row (registerAt o)) v h
 regs-flags-kept s Start h = h
-regs-flags-kept s Send h = h
-regs-flags-kept s (Receive b) h = h
-regs-flags-kept s (Finish code) h = h
+regs-flags-kept s Send h = of-two (KeepsRegsFlags s) (bursting (s .control)) (burstSend s) (send s) (λ e. h) (λ e. h)
+regs-flags-kept s (Receive b) h = of-two (KeepsRegsFlags s) (bursting (s .control)) (burstReceive s b) (receive s b) (λ e. h) (λ e. h)
+regs-flags-kept s (Finish code) h = of-two (KeepsRegsFlags s) (bursting (s .control)) (burstFinish s code) (finish s code) (λ e. h) (λ e. h)
 regs-flags-kept s (Interrupt a b) h = h
 regs-flags-kept s (Request v w) h = h
 regs-flags-kept s Take h = h
+regs-flags-kept s Trigger h = h
 
 -- ── Phase ─────────────────────────────────────────────────────────────────────────────────────────────────────
 -- its three tests
@@ -149,7 +164,7 @@ pub record PhaseOk (p : Phase) : Type 0 where
   pub most : leb (transfer p .moved .0) (limit p) ≡ true
   pub part : eqb (transfer p .part % 2 ^ (32 - 8 * partBytes p)) 0 ≡ true
 
-phase-of : (p : Phase) → phaseOk p ≡ true → PhaseOk p
+pub phase-of : (p : Phase) → phaseOk p ≡ true → PhaseOk p
 unfolding phaseOk
 phase-of p h =
     let z = three (ltb (transfer p .length .0) 4096) (leb (transfer p .moved .0) (limit p)) (eqb (transfer p .part % 2 ^ (32 - 8 * partBytes p)) 0) h in
@@ -159,7 +174,7 @@ phase-ok : (p : Phase) → PhaseOk p → phaseOk p ≡ true
 unfolding phaseOk
 phase-ok p h = all-three (ltb (transfer p .length .0) 4096) (leb (transfer p .moved .0) (limit p)) (eqb (transfer p .part % 2 ^ (32 - 8 * partBytes p)) 0) (h .short) (h .most) (h .part)
 
-length-short : (c : Command) → ltb (lengthOf c) 4096 ≡ true
+pub length-short : (c : Command) → ltb (lengthOf c) 4096 ≡ true
 unfolding lengthOf
 length-short c = go (isEntdaa c)
   where
@@ -167,7 +182,7 @@ length-short c = go (isEntdaa c)
     go true = refl
     go false = lt-ltb (firstWord c / 256 % 4096) 4096 (omega arith)
 
-begun-ok : (c : Command) (a : Bool) → phaseOk (begun c a) ≡ true
+pub begun-ok : (c : Command) (a : Bool) → phaseOk (begun c a) ≡ true
 unfolding begun
 begun-ok c a = go (isEntdaa c) (isRead c)
   where
@@ -177,7 +192,7 @@ begun-ok c a = go (isEntdaa c) (isRead c)
     go false false = phase-ok (Writing (opened c a)) (record { short = length-short c; most = leb·zero (limit (Writing (opened c a))); part = refl })
 
 -- one byte more, below the limit
-one-more : (b : Bool) (length moved : ℕ) → b ≡ false → leb length moved ≡ false → leb (moved + 1) (cond b 0 length) ≡ true
+pub one-more : (b : Bool) (length moved : ℕ) → b ≡ false → leb length moved ≡ false → leb (moved + 1) (cond b 0 length) ≡ true
 one-more true length moved e l = absurd (true≢false e)
 one-more false length moved e l = le-leb (moved + 1) length (let k = leb-false length moved l in omega arith)
 
@@ -230,7 +245,7 @@ pick : (b : Bool) (x y k : ℕ) (n : ℕ) → eqb k 0 ≡ b → y % n ≡ 0 → 
 pick true x y k n e h f = absurd (true≢false (sym e ∙ f))
 pick false x y k n e h f = h
 
-sent-ok : (t : Transfer) (first : ℕ) → unattached (Writing t) ≡ false → leb (t .length .0) (t .moved .0) ≡ false → PhaseOk (Writing t) → phaseOk (Writing (advanced t (cond (fresh t) first (t .part) % 2 ^ 24 * 2 ^ 8))) ≡ true
+pub sent-ok : (t : Transfer) (first : ℕ) → unattached (Writing t) ≡ false → leb (t .length .0) (t .moved .0) ≡ false → PhaseOk (Writing t) → phaseOk (Writing (advanced t (cond (fresh t) first (t .part) % 2 ^ 24 * 2 ^ 8))) ≡ true
 sent-ok t first u l h =
     let m = t .moved .0 in
     phase-ok (Writing (advanced t (cond (fresh t) first (t .part) % 2 ^ 24 * 2 ^ 8)))
@@ -240,7 +255,7 @@ sent-ok t first u l h =
       part = sent-part (m % 4) m (cond (fresh t) first (t .part)) refl (λ n. pick (fresh t) first (t .part) (m % 4) (2 ^ (32 - 8 * ((4 - m % 4) % 4))) refl (eqb-true _ 0 (h .part)) n);
     })
 
-received-ok : (t : Transfer) (b : ℕ) → unattached (Reading t) ≡ false → leb (t .length .0) (t .moved .0) ≡ false → PhaseOk (Reading t) → phaseOk (Reading (advanced t (cond (fills t) 0 (t .part + b * 2 ^ (24 - 8 * (t .moved .0 % 4)))))) ≡ true
+pub received-ok : (t : Transfer) (b : ℕ) → unattached (Reading t) ≡ false → leb (t .length .0) (t .moved .0) ≡ false → PhaseOk (Reading t) → phaseOk (Reading (advanced t (cond (fills t) 0 (t .part + b * 2 ^ (24 - 8 * (t .moved .0 % 4)))))) ≡ true
 received-ok t b u l h =
     let m = t .moved .0 in
     phase-ok (Reading (advanced t (cond (fills t) 0 (t .part + b * 2 ^ (24 - 8 * (m % 4))))))
@@ -251,7 +266,7 @@ received-ok t b u l h =
     })
 
 -- an assignment's states have the same tests
-requested-ok : (p : Phase) → assigning p ≡ true → phaseOk p ≡ true → phaseOk (Requested (transfer p)) ≡ true
+pub requested-ok : (p : Phase) → assigning p ≡ true → phaseOk p ≡ true → phaseOk (Requested (transfer p)) ≡ true
 unfolding phaseOk
 requested-ok Idle a h = absurd (false≢true a)
 requested-ok (Writing t) a h = absurd (false≢true a)
@@ -260,44 +275,14 @@ requested-ok (Unrequested t) a h = h
 requested-ok (Requested t) a h = h
 requested-ok (Answered t) a h = h
 
-taken-ok : (b : Bool) (p : Phase) → assigning p ≡ true → phaseOk p ≡ true → phaseOk (cond b (Answered (transfer p)) (Requested (transfer p))) ≡ true
+pub taken-ok : (b : Bool) (p : Phase) → assigning p ≡ true → phaseOk p ≡ true → phaseOk (cond b (Answered (transfer p)) (Requested (transfer p))) ≡ true
 unfolding phaseOk
 taken-ok true p a h = requested-ok p a h
 taken-ok false p a h = requested-ok p a h
 
-idle-ok : phaseOk Idle ≡ true
+pub idle-ok : phaseOk Idle ≡ true
 unfolding phaseOk
 idle-ok = refl
-
-enable-phase : (s : View) (b : Bool) → phaseOk (s .phase) ≡ true → phaseOk (enable s b .phase) ≡ true
-unfolding enable
-enable-phase s true h = idle-ok
-enable-phase s false h = h
-
-write-phase : (s : View) (x : Row) (v : ℕ) → phaseOk (s .phase) ≡ true → phaseOk (effect (write x s v) .phase) ≡ true
-write-phase s absent v h = h
-write-phase s (shows f) v h = h
-write-phase s (holds c) v h = h
-write-phase s (pushes q) v h = h
-write-phase s (takes q) v h = h
-write-phase s enables v h = enable-phase s (bit 0 v) h
-write-phase s acknowledges v h = h
-
-pub phase-kept : (s : View) (c : Call) → Passed (decide s c) → phaseOk (s .phase) ≡ true → phaseOk (effect (decide s c) .phase) ≡ true
-unfolding start send receive finish interrupt request takeAddress
-phase-kept s (Read o) f h = rw (read-untouched s (row (registerAt o)) .phaseSame) h
-phase-kept s (Write o v) f h = write-phase s (row (registerAt o)) v h
-phase-kept s Start f h = begun-ok (command (s .queues .cmd)) (attached s (command (s .queues .cmd)))
-phase-kept s Send f h =
-    let e = writing-is (s .phase) (not-false (writing (s .phase)) (f .1 .1 .1 .0)) in
-    sent-ok (transfer (s .phase)) (s .queues .sdo .first) (subst (λ (p : Phase). unattached p ≡ false) e (f .1 .1 .0)) (f .1 .1 .1 .1 .0) (subst PhaseOk e (phase-of (s .phase) h))
-phase-kept s (Receive b) f h =
-    let e = reading-is (s .phase) (not-false (reading (s .phase)) (f .1 .1 .1 .0)) in
-    received-ok (transfer (s .phase)) b (subst (λ (p : Phase). unattached p ≡ false) e (f .1 .1 .0)) (f .1 .1 .1 .1 .0) (subst PhaseOk e (phase-of (s .phase) h))
-phase-kept s (Finish code) f h = idle-ok
-phase-kept s (Interrupt a b) f h = h
-phase-kept s (Request v w) f h = requested-ok (s .phase) (not-false (assigning (s .phase)) (or-left (not (assigning (s .phase))) (requested (s .phase)) (f .1 .1 .0))) h
-phase-kept s Take f h = taken-ok (eqb (ones (s .queues .sdo .first / 2 ^ 24) % 2) 1) (s .phase) (requested-assigns (s .phase) (not-false (requested (s .phase)) (f .1 .1 .0))) h
 
 -- ── In reset ──────────────────────────────────────────────────────────────────────────────────────────────────
 released-ok : (c : Control) (p : Phase) (q : Queues) → c .held ≡ false → resetOk c p q ≡ true
@@ -325,8 +310,11 @@ not-and false false e = refl
 pending-clear : (c : Control) (x y z : Bool) → controlClear c ≡ true → controlClear (pending (x && c .cmdrpending) (y && c .ibipending) (z && c .daapending) c) ≡ true
 unfolding controlClear
 pending-clear c x y z h =
-    let k = five (eqb (c .sync) 0) (eqb (c .ibisync) 0) (not (c .cmdrpending)) (not (c .ibipending)) (not (c .daapending)) h in
-    all-five (eqb (c .sync) 0) (eqb (c .ibisync) 0) (not (x && c .cmdrpending)) (not (y && c .ibipending)) (not (z && c .daapending)) (k .0) (k .1) (not-and (c .cmdrpending) x (k .2)) (not-and (c .ibipending) y (k .3)) (not-and (c .daapending) z (k .4))
+    let j = and-true (eqb (c .sync) 0 && eqb (c .ibisync) 0 && not (c .cmdrpending) && not (c .ibipending) && not (c .daapending)) (eqb (c .burst) 0) h in
+    let k = five (eqb (c .sync) 0) (eqb (c .ibisync) 0) (not (c .cmdrpending)) (not (c .ibipending)) (not (c .daapending)) (j .0) in
+    true-and (eqb (c .sync) 0 && eqb (c .ibisync) 0 && not (x && c .cmdrpending) && not (y && c .ibipending) && not (z && c .daapending)) (eqb (c .burst) 0)
+    (all-five (eqb (c .sync) 0) (eqb (c .ibisync) 0) (not (x && c .cmdrpending)) (not (y && c .ibipending)) (not (z && c .daapending)) (k .0) (k .1) (not-and (c .cmdrpending) x (k .2)) (not-and (c .ibipending) y (k .3)) (not-and (c .daapending) z (k .4)))
+    (j .1)
 
 -- nothing can be taken from a ring that is clear
 none-there : (r : Ring) → ringClear r ≡ true → eqb (r .level .0) 0 ≡ false → ⊥
@@ -350,7 +338,6 @@ clears-held Sdo b c = refl
 clears-held Sdi b c = refl
 clears-held Ibi b c = refl
 
--- in reset there is nothing to take
 -- a row keeps what holds in reset: there nothing can be taken or pushed
 abbrev ResetOk : Controller → Control → Phase → Five QueueOp → Type 0
 ResetOk l c p o = resetOk c p (onRings o (l .bank .state .queues)) ≡ true
@@ -383,14 +370,22 @@ write-reset l (takes q) v f h = h
 write-reset l enables v f h = enable-reset l (bit 0 v)
 write-reset l acknowledges v f h = reset-ok (l .bank .state .control) _ (l .bank .state .phase) _ (l .bank .state .queues) _ refl refl (λ c d. (c, pending-clear (l .bank .state .control) (not (bit 5 v)) (not (bit 6 v)) (not (bit 7 v)) d)) h
 
-pub reset-kept : (l : Controller) (c : Call) → Passed (decide (viewRings l) c) → Before l → (let e = effect (decide (viewRings l) c) in ResetOk l (e .control) (e .phase) (e .ops))
-unfolding start send receive finish interrupt request takeAddress
-reset-kept l (Read o) f h = read-reset l (row (registerAt o)) f h
-reset-kept l (Write o v) f h = write-reset l (row (registerAt o)) v f h
-reset-kept l Start f h = released-ok _ _ _ (f .0)
-reset-kept l Send f h = released-ok _ _ _ (f .0)
-reset-kept l (Receive b) f h = released-ok _ _ _ (f .0)
-reset-kept l (Finish code) f h = released-ok _ _ _ (f .1 .0)
-reset-kept l (Interrupt a b) f h = released-ok _ _ _ (f .1 .0)
-reset-kept l (Request v w) f h = released-ok _ _ _ (f .0)
-reset-kept l Take f h = released-ok _ _ _ (f .0)
+-- a call behind the test 5 is made in no reset
+abbrev KeepsReset : Controller → Decision → Type 0
+KeepsReset l d = Passed d → ResetOk l (effect d .control) (effect d .phase) (effect d .ops)
+
+pub reset-kept : (l : Controller) (c : Call) → Before l → KeepsReset l (decide (viewRings l) c)
+unfolding start send receive finish interrupt request takeAddress trigger burstSend burstReceive burstFinish
+reset-kept l (Read o) h f = read-reset l (row (registerAt o)) f h
+reset-kept l (Write o v) h f = write-reset l (row (registerAt o)) v f h
+reset-kept l Start h f = released-ok _ _ _ (f .1 .0)
+reset-kept l Send h f =
+    of-two (KeepsReset l) (bursting (l .bank .state .control)) (burstSend (viewRings l)) (send (viewRings l)) (λ e g. released-ok _ _ _ (g .0)) (λ e g. released-ok _ _ _ (g .0)) (f .1)
+reset-kept l (Receive b) h f =
+    of-two (KeepsReset l) (bursting (l .bank .state .control)) (burstReceive (viewRings l) b) (receive (viewRings l) b) (λ e g. released-ok _ _ _ (g .0)) (λ e g. released-ok _ _ _ (g .0)) (f .1)
+reset-kept l (Finish code) h f =
+    of-two (KeepsReset l) (bursting (l .bank .state .control)) (burstFinish (viewRings l) code) (finish (viewRings l) code) (λ e g. released-ok _ _ _ (g .0)) (λ e g. released-ok _ _ _ (g .0)) (f .1 .1)
+reset-kept l (Interrupt a b) h f = released-ok _ _ _ (f .1 .1 .0)
+reset-kept l (Request v w) h f = released-ok _ _ _ (f .1 .0)
+reset-kept l Take h f = released-ok _ _ _ (f .1 .0)
+reset-kept l Trigger h f = released-ok _ _ _ (f .1 .0)

@@ -12,7 +12,8 @@ use borrow.Author.Tests.{ltb-true, not-true}
 use Rattle.bank.specs.declared.Phase.{Phase}
 use Rattle.bank.specs.declared.Phase.the-variants.{Idle, Writing, Reading, Unrequested}
 use Rattle.bank.specs.Phases.{idle, writing, reading, assigning, transfer}
-use Rattle.model.specs.View.{bit, QueueView}
+use Rattle.bank.specs.Bits.{bit}
+use Rattle.model.specs.View.{QueueView}
 use Rattle.model.specs.Commands.{Command, twoWords, firstWord, isEntdaa, isRead, isWrite, lengthOf, opened, begun, receiptWord}
 use Rattle.model.specs.Calls.{whole, command, wordCount}
 use Rattle.model.specs.Lists.{viewList}

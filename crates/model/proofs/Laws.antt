@@ -5,32 +5,37 @@ use mathlib.Core.Bool.{Bool, true, false, cond, not, true≢false, false≢true}
 use mathlib.Core.List.{List, [], _∷_}
 use mathlib.Core.Option.{Option, none, some}
 use lib.Dec.{eqb}
-use lib.ListN.{length}
+use lib.ListN.{length, set, length-set}
 use borrow.Author.Tests.{ne-eqb, eqb-true}
 use Rattle.ring.specs.Ring.{entries}
 use Rattle.bank.specs.declared.Bank.{Bank}
 use Rattle.bank.specs.declared.Sizes.{Sizes}
 use Rattle.bank.specs.SetUp.{setUp, total}
 use Rattle.bank.specs.Formed.{wellFormed}
+use Rattle.bank.specs.Phases.{reading, transfer}
+use Rattle.bank.specs.Bursts.{readsIn, bursting, place}
 use Rattle.bank.proofs.Bools.{or-left, or-right}
 use Rattle.bank.proofs.Laws.{formed-of, bank-is, fresh-formed, ready}
 use Rattle.registers.specs.Map.{registerAt}
 use Rattle.model.specs.declared.Call.{Call}
-use Rattle.model.specs.declared.Call.the-variants.{Read, Write, Start, Send, Receive, Finish, Interrupt, Request, Take}
+use Rattle.model.specs.declared.Call.the-variants.{Read, Write, Start, Send, Receive, Finish, Interrupt, Request, Take, Trigger}
 use Rattle.bank.specs.declared.Answer.{Answer}
-use Rattle.model.specs.View.{bit, Queue, Cmd, Cmdr, Sdo, Sdi, Ibi, of, View}
+use Rattle.bank.specs.Bits.{bit}
+use Rattle.model.specs.View.{Queue, Cmd, Cmdr, Sdo, Sdi, Ibi, of, Tables, View}
 use Rattle.model.specs.Decision.{QueueOp, keep, keepAll, only, Decision, first, effect}
-use Rattle.model.specs.Registers.{Row, absent, shows, holds, pushes, takes, enables, acknowledges, row, enable, read, write}
-use Rattle.model.specs.Calls.{decide, start, send, receive, finish, interrupt, request, takeAddress}
-use Rattle.model.specs.Engine.{Step, outcome, step, final, answers}
+use Rattle.model.specs.Registers.{Cell, scratch, mask, ops, ibiConfig, devChar, offloadCmd, offloadSdo, Row, absent, shows, holds, pushes, takes, enables, acknowledges, row, storedTables, enable, read, write}
+use Rattle.model.specs.Calls.{start, send, receive, finish, interrupt, request, takeAddress}
+use Rattle.model.specs.Bursts.{trigger, burstSend, burstReceive, burstFinish, decide}
+use Rattle.model.specs.Engine.{Step, outcome, step, Lent, stepLent, final, answers}
 use Rattle.model.specs.Rings.{Controller, Area, areas, wordsIn, viewRings, onRing, settleRings, guardRings, rings}
 use Rattle.model.specs.Lists.{Lists, lists, onWords}
-use Rattle.model.specs.Laws.{fresh, freshLists, EnginesAgree, RefusalChangesNothing, StoreKeepsLength, same, readNames, writeNames, names, OthersStay}
-use Rattle.model.proofs.Tests.{Passed, passed, Refusal, refusal}
+use Rattle.model.specs.Laws.{fresh, freshLists, EnginesAgree, RefusalChangesNothing, StoreKeepsLength, OutputKeepsLength, same, readNames, writeNames, names, OthersStay}
+use Rattle.model.proofs.Tests.{Passed, passed, of-two, Refusal, refusal}
 use Rattle.model.proofs.Numbers.{zeroOr19, effect-number, all-refusals}
 use Rattle.model.proofs.Room.{fits}
+use Rattle.model.proofs.Formed.{read-untouched}
 use Rattle.model.proofs.Rings.{listed, length-all, base-same, settled-words, onArea}
-use Rattle.model.proofs.Simulation.{Sound, same-answer, stays-sound, same-final}
+use Rattle.model.proofs.Simulation.{Sound, lent-same, lent-stays, same-final}
 
 -- ── A step is refused by a number, or settled ─────────────────────────────────────────────────────────────────
 -- what the two tests of the bank leave to decide
@@ -68,6 +73,55 @@ refusal-changes-nothing l c =
 pub store-keeps-length : StoreKeepsLength
 unfolding StoreKeepsLength
 store-keeps-length l c = by-outcome (λ r. length (r .next .store) ≡ length (l .store)) l c (λ n k. refl) (λ f z p. length-all (effect (decide (viewRings l) c) .ops) (areas (l .bank .state .queues)) (l .store))
+
+-- ── The output ────────────────────────────────────────────────────────────────────────────────────────────────
+stored-output : (c : Cell) (v : ℕ) (t : Tables) → storedTables c v t .output ≡ t .output
+stored-output scratch v t = refl
+stored-output mask v t = refl
+stored-output ops v t = refl
+stored-output ibiConfig v t = refl
+stored-output devChar v t = refl
+stored-output (offloadCmd i) v t = refl
+stored-output (offloadSdo i) v t = refl
+
+enable-output : (s : View) (b : Bool) → enable s b .tables .output ≡ s .tables .output
+unfolding enable
+enable-output s true = refl
+enable-output s false = refl
+
+write-output : (s : View) (x : Row) (v : ℕ) → effect (write x s v) .tables .output ≡ s .tables .output
+write-output s absent v = refl
+write-output s (shows f) v = refl
+write-output s (holds c) v = stored-output c v (s .tables)
+write-output s (pushes q) v = refl
+write-output s (takes q) v = refl
+write-output s enables v = enable-output s (bit 0 v)
+write-output s acknowledges v = refl
+
+length-if : (b : Bool) (o : List ℕ) (i w : ℕ) → length (cond b (set o i w) o) ≡ length o
+length-if true o i w = length-set o i w
+length-if false o i w = refl
+
+abbrev KeepsLength : View → Decision → Type 0
+KeepsLength s d = length (effect d .tables .output) ≡ length (s .tables .output)
+
+output-length : (s : View) (c : Call) → KeepsLength s (decide s c)
+unfolding start send receive finish interrupt request takeAddress trigger burstSend burstReceive burstFinish
+output-length s (Read o) = ap (λ (t : Tables). length (t .output)) (read-untouched s (row (registerAt o)) .tablesSame)
+output-length s (Write o v) = ap length (write-output s (row (registerAt o)) v)
+output-length s Start = refl
+output-length s Send = of-two (KeepsLength s) (bursting (s .control)) (burstSend s) (send s) (λ e. refl) (λ e. refl)
+output-length s (Receive b) = of-two (KeepsLength s) (bursting (s .control)) (burstReceive s b) (receive s b) (λ e. refl) (λ e. refl)
+output-length s (Finish code) =
+    of-two (KeepsLength s) (bursting (s .control)) (burstFinish s code) (finish s code) (λ e. length-if (reading (s .phase)) (s .tables .output) (readsIn (place (s .control)) (s .tables .commands)) (transfer (s .phase) .part)) (λ e. refl)
+output-length s (Interrupt a b) = refl
+output-length s (Request v w) = refl
+output-length s Take = refl
+output-length s Trigger = refl
+
+pub output-keeps-length : OutputKeepsLength
+unfolding OutputKeepsLength
+output-keeps-length l c = by-outcome (λ r. length (r .next .output) ≡ length (l .output)) l c (λ n k. refl) (λ f z p. output-length (viewRings l) c)
 
 -- ── Queues that a call does not name ──────────────────────────────────────────────────────────────────────────
 kept-all : (k : Queue) → of k keepAll ≡ keep
@@ -134,17 +188,21 @@ finish-kept a b Sdo e f = refl
 finish-kept a b Sdi e f = absurd (true≢false f)
 finish-kept a b Ibi e f = refl
 
-keeps : (s : View) (c : Call) (k : Queue) → names c k ≡ false → of k (effect (decide s c) .ops) ≡ keep
-unfolding start send receive finish interrupt request takeAddress
+abbrev KeepsQueue : Queue → Decision → Type 0
+KeepsQueue k d = of k (effect d .ops) ≡ keep
+
+keeps : (s : View) (c : Call) (k : Queue) → names c k ≡ false → KeepsQueue k (decide s c)
+unfolding start send receive finish interrupt request takeAddress trigger burstSend burstReceive burstFinish
 keeps s (Read o) k h = read-kept s (row (registerAt o)) k h
 keeps s (Write o v) k h = write-kept s (row (registerAt o)) v k h
 keeps s Start k h = kept-only Cmd _ k h
-keeps s Send k h = kept-only Sdo _ k h
-keeps s (Receive b) k h = kept-only Sdi _ k h
-keeps s (Finish code) k h = finish-kept _ _ k (or-left (same Cmdr k) (same Sdi k) h) (or-right (same Cmdr k) (same Sdi k) h)
+keeps s Send k h = of-two (KeepsQueue k) (bursting (s .control)) (burstSend s) (send s) (λ e. kept-all k) (λ e. kept-only Sdo _ k h)
+keeps s (Receive b) k h = of-two (KeepsQueue k) (bursting (s .control)) (burstReceive s b) (receive s b) (λ e. kept-all k) (λ e. kept-only Sdi _ k h)
+keeps s (Finish code) k h = of-two (KeepsQueue k) (bursting (s .control)) (burstFinish s code) (finish s code) (λ e. kept-all k) (λ e. finish-kept _ _ k (or-left (same Cmdr k) (same Sdi k) h) (or-right (same Cmdr k) (same Sdi k) h))
 keeps s (Interrupt a b) k h = kept-only Ibi _ k h
 keeps s (Request v w) k h = kept-only Sdi _ k h
 keeps s Take k h = kept-only Sdo _ k h
+keeps s Trigger k h = kept-all k
 
 area-kept : (o : QueueOp) (a : Area) → o ≡ keep → onArea o a ≡ a
 unfolding onRing
@@ -163,10 +221,10 @@ others-stay l c k h =
     (base-same q (l .store) o r k ∙ area-kept (of k o) (of k (areas q)) e, settled-words q (l .store) o r (fits (viewRings l) c p) k ∙ ap (λ (x : QueueOp). onWords x (wordsIn (of k (areas q)) (l .store))) e))
 
 -- ── Both engines ──────────────────────────────────────────────────────────────────────────────────────────────
-same-answers : (cs : List Call) (l : Controller) (m : Lists) → Sound l m → answers rings l cs ≡ answers lists m cs
+same-answers : (cs : List Lent) (l : Controller) (m : Lists) → Sound l m → answers rings l cs ≡ answers lists m cs
 unfolding answers
 same-answers [] l m h = refl
-same-answers (c ∷ cs) l m h = ap₂ (λ (a : Answer) (r : List Answer). a ∷ r) (same-answer l m c h) (same-answers cs (step rings l c .next) (step lists m c .next) (stays-sound l m c h))
+same-answers (c ∷ cs) l m h = ap₂ (λ (a : Answer) (r : List Answer). a ∷ r) (lent-same l m c h) (same-answers cs (stepLent rings l c .next) (stepLent lists m c .next) (lent-stays l m c h))
 
 listed-words : (l : Controller) (k : Queue) → of k (listed l .queues) .words ≡ wordsIn (of k (areas (l .bank .state .queues))) (l .store)
 listed-words l Cmd = refl
@@ -178,7 +236,7 @@ listed-words l Ibi = refl
 pub fresh-sound : (caps marks : Sizes) (id : ℕ) (store : List ℕ) → setUp caps marks id .answer .number ≡ 0 → length store ≡ total (setUp caps marks id .bank .state .queues) → Sound (fresh caps marks id store) (freshLists caps marks id)
 unfolding entries
 fresh-sound caps marks id store n z =
-    subst (λ (b : Bank). length store ≡ total (b .state .queues) → Sound (record { bank = b; store = store }) (record { regs = b .state .regs; control = b .state .control; phase = b .state .phase; tables = record { flags = b .flags; commands = b .commands; payloads = b .payloads }; queues = freshLists caps marks id .queues })) (sym (bank-is caps marks id n))
+    subst (λ (b : Bank). length store ≡ total (b .state .queues) → Sound (record { bank = b; store = store; output = [] }) (record { regs = b .state .regs; control = b .state .control; phase = b .state .phase; tables = record { flags = b .flags; commands = b .commands; payloads = b .payloads; output = [] }; queues = freshLists caps marks id .queues })) (sym (bank-is caps marks id n))
     (λ y. record { is = refl; formed = fresh-formed caps marks id n; size = y })
     z
 

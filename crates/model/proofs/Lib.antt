@@ -7,7 +7,9 @@ pub mod Invariant
 pub mod Room
 pub mod Rings
 pub mod Formed
+pub mod Open
 pub mod Events
+pub mod Strays
 pub mod ListDemand
 pub mod Simulation
 pub mod Laws
@@ -15,3 +17,6 @@ pub mod Demand
 pub mod Cases
 pub mod Driver
 pub mod Endings
+pub mod Alone
+pub mod Inside
+pub mod BurstLaw

@@ -4,14 +4,17 @@ use mathlib.Core.Path.{_≡_, refl}
 use mathlib.Core.Bool.{Bool, true, false, cond, _||_}
 use lib.Dec.{eqb}
 use lib.Count.{ones}
+use Rattle.bank.specs.Bursts.{bursting}
 use Rattle.registers.specs.Map.{registerAt}
 use Rattle.model.specs.declared.Call.{Call}
-use Rattle.model.specs.declared.Call.the-variants.{Read, Write, Start, Send, Receive, Finish, Interrupt, Request, Take}
-use Rattle.model.specs.View.{bit, View}
-use Rattle.model.specs.Decision.{effect}
+use Rattle.model.specs.declared.Call.the-variants.{Read, Write, Start, Send, Receive, Finish, Interrupt, Request, Take, Trigger}
+use Rattle.bank.specs.Bits.{bit}
+use Rattle.model.specs.View.{View}
+use Rattle.model.specs.Decision.{Decision, effect}
 use Rattle.model.specs.Registers.{Row, absent, shows, holds, pushes, takes, enables, acknowledges, row, enable, read, write}
-use Rattle.model.specs.Calls.{decide, start, send, receive, finish, interrupt, request, takeAddress}
-use Rattle.model.proofs.Tests.{refusals}
+use Rattle.model.specs.Calls.{start, send, receive, finish, interrupt, request, takeAddress}
+use Rattle.model.specs.Bursts.{trigger, burstSend, burstReceive, burstFinish, decide}
+use Rattle.model.proofs.Tests.{of-two, refusals}
 
 pub read-number : (s : View) (x : Row) → effect (read x s) .number ≡ 0
 read-number s absent = refl
@@ -43,17 +46,21 @@ take-number : (b : Bool) → zeroOr19 (cond b 0 19) ≡ true
 take-number true = refl
 take-number false = refl
 
-pub effect-number : (s : View) (c : Call) → zeroOr19 (effect (decide s c) .number) ≡ true
-unfolding start send receive finish interrupt request takeAddress
+abbrev Ends : Decision → Type 0
+Ends d = zeroOr19 (effect d .number) ≡ true
+
+pub effect-number : (s : View) (c : Call) → Ends (decide s c)
+unfolding start send receive finish interrupt request takeAddress trigger burstSend burstReceive burstFinish
 effect-number s (Read o) = rw (read-number s (row (registerAt o)))
 effect-number s (Write o v) = rw (write-number s (row (registerAt o)) v)
 effect-number s Start = refl
-effect-number s Send = refl
-effect-number s (Receive b) = refl
-effect-number s (Finish code) = refl
+effect-number s Send = of-two Ends (bursting (s .control)) (burstSend s) (send s) (λ e. refl) (λ e. refl)
+effect-number s (Receive b) = of-two Ends (bursting (s .control)) (burstReceive s b) (receive s b) (λ e. refl) (λ e. refl)
+effect-number s (Finish code) = of-two Ends (bursting (s .control)) (burstFinish s code) (finish s code) (λ e. refl) (λ e. refl)
 effect-number s (Interrupt a b) = refl
 effect-number s (Request v w) = refl
 effect-number s Take = take-number (eqb (ones (s .queues .sdo .first / 2 ^ 24) % 2) 1)
+effect-number s Trigger = refl
 
 pub read-refusals : (s : View) (x : Row) → refusals (read x s) ≡ true
 read-refusals s absent = refl
@@ -73,14 +80,18 @@ write-refusals s (takes q) v = refl
 write-refusals s enables v = refl
 write-refusals s acknowledges v = refl
 
-pub all-refusals : (s : View) (c : Call) → refusals (decide s c) ≡ true
-unfolding start send receive finish interrupt request takeAddress
+abbrev Refuses : Decision → Type 0
+Refuses d = refusals d ≡ true
+
+pub all-refusals : (s : View) (c : Call) → Refuses (decide s c)
+unfolding start send receive finish interrupt request takeAddress trigger burstSend burstReceive burstFinish
 all-refusals s (Read off) = read-refusals s (row (registerAt off))
 all-refusals s (Write off v) = write-refusals s (row (registerAt off)) v
 all-refusals s Start = refl
-all-refusals s Send = refl
-all-refusals s (Receive b) = refl
-all-refusals s (Finish code) = refl
+all-refusals s Send = of-two Refuses (bursting (s .control)) (burstSend s) (send s) (λ e. refl) (λ e. refl)
+all-refusals s (Receive b) = of-two Refuses (bursting (s .control)) (burstReceive s b) (receive s b) (λ e. refl) (λ e. refl)
+all-refusals s (Finish code) = of-two Refuses (bursting (s .control)) (burstFinish s code) (finish s code) (λ e. refl) (λ e. refl)
 all-refusals s (Interrupt a b) = refl
 all-refusals s (Request v w) = refl
 all-refusals s Take = refl
+all-refusals s Trigger = refl

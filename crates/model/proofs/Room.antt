@@ -6,16 +6,19 @@ use mathlib.Core.Bool.{Bool, true, false, cond, not, _&&_, false≢true}
 use lib.Dec.{eqb}
 use borrow.Author.Tests.{ltb-false, leb-false, eqb-false, not-true, not-false}
 use Rattle.bank.specs.Phases.{transfer}
+use Rattle.bank.specs.Bursts.{bursting}
 use Rattle.bank.proofs.Bools.{or-left, or-right}
 use Rattle.registers.specs.Map.{registerAt}
 use Rattle.model.specs.declared.Call.{Call}
-use Rattle.model.specs.declared.Call.the-variants.{Read, Write, Start, Send, Receive, Finish, Interrupt, Request, Take}
-use Rattle.model.specs.View.{bit, Queue, Cmd, Cmdr, Sdo, Sdi, Ibi, Five, of, QueueView, room, empty, full, View}
-use Rattle.model.specs.Decision.{QueueOp, keep, clear, take, push, push2, keepAll, only, effect}
+use Rattle.model.specs.declared.Call.the-variants.{Read, Write, Start, Send, Receive, Finish, Interrupt, Request, Take, Trigger}
+use Rattle.bank.specs.Bits.{bit}
+use Rattle.model.specs.View.{Queue, Cmd, Cmdr, Sdo, Sdi, Ibi, Five, of, QueueView, room, empty, full, View}
+use Rattle.model.specs.Decision.{QueueOp, keep, clear, take, push, push2, keepAll, only, Decision, effect}
 use Rattle.model.specs.Commands.{twoWords}
 use Rattle.model.specs.Registers.{Row, absent, shows, holds, pushes, takes, enables, acknowledges, row, enable, read, write}
-use Rattle.model.specs.Calls.{whole, wordCount, fresh, fills, padded, decide, start, send, receive, finish, interrupt, request, takeAddress}
-use Rattle.model.proofs.Tests.{Passed}
+use Rattle.model.specs.Calls.{whole, wordCount, fresh, fills, padded, start, send, receive, finish, interrupt, request, takeAddress}
+use Rattle.model.specs.Bursts.{trigger, burstSend, burstReceive, burstFinish, decide}
+use Rattle.model.proofs.Tests.{Passed, of-two}
 
 abbrev pub Fits : QueueOp → ℕ → ℕ → Type 0
 Fits keep cap level = Unit {0}
@@ -95,17 +98,34 @@ write-fits s (takes q) v e = fits-none s
 write-fits s enables v e = enable-fits s (bit 0 v)
 write-fits s acknowledges v e = fits-none s
 
-pub fits : (s : View) (c : Call) → Passed (decide s c) → AllFit (effect (decide s c) .ops) (s .queues)
-unfolding start send receive finish interrupt request takeAddress
-fits s (Read o) f = read-fits s (row (registerAt o)) f
-fits s (Write o v) f = write-fits s (row (registerAt o)) v f
-fits s Start f = fits-only s Cmd (take (wordCount (s .queues .cmd))) (command-there (s .queues .cmd .level) (twoWords (s .queues .cmd .first)) (not-false (whole (s .queues .cmd)) (f .1 .1 .1 .0)))
-fits s Send f = fits-only s Sdo (cond (fresh (transfer (s .phase))) (take 1) keep) (if-take (fresh (transfer (s .phase))) (s .queues .sdo) (f .1 .1 .1 .1 .1 .0))
-fits s (Receive b) f = fits-only s Sdi _ (if-push (fills (transfer (s .phase))) _ (s .queues .sdi) (f .1 .1 .1 .1 .1 .0))
-fits s (Finish code) f =
-    let e = f .1 .1 .1 .1 .0 in
+abbrev Served : View → Decision → Type 0
+Served s d = Passed d → AllFit (effect d .ops) (s .queues)
+
+finish-fits : (s : View) (code : ℕ) → Served s (finish s code)
+unfolding finish
+finish-fits s code f =
+    let e = f .1 .1 .1 .0 in
     let b = padded (s .phase) && full (s .queues .sdi) in
     by-queue _ tt (room-there (s .queues .cmdr) (or-left (full (s .queues .cmdr)) b e)) tt (if-push (padded (s .phase)) _ (s .queues .sdi) (or-right (full (s .queues .cmdr)) b e)) tt
-fits s (Interrupt a b) f = fits-only s Ibi _ (room-there (s .queues .ibi) (f .1 .1 .1 .1 .1 .0))
-fits s (Request v w) f = fits-only s Sdi (push2 v w) (let k = ltb-false (room (s .queues .sdi)) 2 (f .1 .1 .1 .0) in omega arith)
-fits s Take f = fits-only s Sdo (take 1) (one-there (s .queues .sdo) (f .1 .1 .1 .0))
+
+-- a burst touches no queue
+pub fits : (s : View) (c : Call) → Served s (decide s c)
+unfolding start send receive interrupt request takeAddress trigger burstSend burstReceive burstFinish
+fits s (Read o) f = read-fits s (row (registerAt o)) f
+fits s (Write o v) f = write-fits s (row (registerAt o)) v f
+fits s Start f = fits-only s Cmd (take (wordCount (s .queues .cmd))) (command-there (s .queues .cmd .level) (twoWords (s .queues .cmd .first)) (not-false (whole (s .queues .cmd)) (f .1 .1 .1 .1 .0)))
+fits s Send f =
+    of-two (Served s) (bursting (s .control)) (burstSend s) (send s)
+    (λ e g. fits-none s)
+    (λ e g. fits-only s Sdo (cond (fresh (transfer (s .phase))) (take 1) keep) (if-take (fresh (transfer (s .phase))) (s .queues .sdo) (g .1 .1 .1 .1 .1 .0)))
+    (f .1)
+fits s (Receive b) f =
+    of-two (Served s) (bursting (s .control)) (burstReceive s b) (receive s b)
+    (λ e g. fits-none s)
+    (λ e g. fits-only s Sdi _ (if-push (fills (transfer (s .phase))) _ (s .queues .sdi) (g .1 .1 .1 .1 .1 .0)))
+    (f .1)
+fits s (Finish code) f = of-two (Served s) (bursting (s .control)) (burstFinish s code) (finish s code) (λ e g. fits-none s) (λ e g. finish-fits s code g) (f .1 .1)
+fits s (Interrupt a b) f = fits-only s Ibi _ (room-there (s .queues .ibi) (f .1 .1 .1 .1 .1 .1 .0))
+fits s (Request v w) f = fits-only s Sdi (push2 v w) (let k = ltb-false (room (s .queues .sdi)) 2 (f .1 .1 .1 .1 .0) in omega arith)
+fits s Take f = fits-only s Sdo (take 1) (one-there (s .queues .sdo) (f .1 .1 .1 .1 .0))
+fits s Trigger f = fits-none s

@@ -14,15 +14,16 @@ use Rattle.bank.proofs.Laws.{Formed, formed-is, formed-of, ready, bank-is, fres
 use Rattle.model.specs.declared.Call.{Call}
 use Rattle.model.specs.View.{View}
 use Rattle.model.specs.Decision.{first, Effect, effect}
-use Rattle.model.specs.Calls.{decide}
-use Rattle.model.specs.Engine.{Step, outcome, step, final}
+use Rattle.model.specs.Bursts.{decide}
+use Rattle.model.specs.Engine.{Step, outcome, step, Lent, stepLent, final}
 use Rattle.model.specs.Rings.{Controller, viewRings, settleRings, guardRings, rings}
 use Rattle.model.specs.Lists.{Lists, settleLists, lists}
 use Rattle.model.specs.Laws.{IllFormed, WrongLength, SetUpWellFormed, StaysWellFormed}
 use Rattle.model.proofs.Tests.{Passed, passed}
 use Rattle.model.proofs.Room.{fits}
 use Rattle.model.proofs.Rings.{listed, view-same, ready-after, settled-same}
-use Rattle.model.proofs.Formed.{queues-kept, regs-flags-kept, phase-kept, reset-kept}
+use Rattle.model.proofs.Formed.{queues-kept, regs-flags-kept, reset-kept}
+use Rattle.model.proofs.Open.{open-kept}
 
 abbrev RightLength : Controller → Type 0
 RightLength l = length (l .store) ≡ total (l .bank .state .queues)
@@ -47,7 +48,7 @@ served-sound l c f h z =
     let g = regs-flags-kept s c (h .regs, h .flags) in
     record {
       is = settled-same l e r k;
-      formed = record { queues = queues-kept q (l .store) (e .ops) k (h .queues); regs = g .0; phase = phase-kept s c f (h .phase); reset = reset-kept l c f (h .reset); flags = g .1 };
+      formed = record { queues = queues-kept q (l .store) (e .ops) k (h .queues); regs = g .0; phase = open-kept s c (h .phase) f; reset = reset-kept l c (h .reset) f; flags = g .1 };
       size = ready-after q (l .store) (e .ops) r k .size;
     }
 
@@ -59,7 +60,7 @@ abbrev listsBy : Lists → Option ℕ → Effect → Step Lists
 listsBy m n e = outcome n e m (settleLists m e)
 
 -- 21 and 22 do not arise
-rings-step : (l : Controller) (c : Call) → Formed (l .bank) → RightLength l → step rings l c ≡ ringsBy l (first (decide (viewRings l) c)) (decision l c)
+pub rings-step : (l : Controller) (c : Call) → Formed (l .bank) → RightLength l → step rings l c ≡ ringsBy l (first (decide (viewRings l) c)) (decision l c)
 unfolding step guardRings
 rings-step l c h z = rw (formed-is (l .bank) h, eq-eqb (length (l .store)) (total (l .bank .state .queues)) z)
 
@@ -89,10 +90,20 @@ stays-sound l m c h =
     (subst (λ (x : Step Lists). Sound (ringsBy l (first (decide (viewRings l) c)) (decision l c) .next) (x .next)) (sym (lists-step l c))
     (next-sound l c (first (decide (viewRings l) c)) refl (h .formed) (h .size))))
 
-pub same-final : (cs : List Call) (l : Controller) (m : Lists) → Sound l m → Sound (final rings l cs) (final lists m cs)
+-- with another output lent
+pub lent-sound : (o : List ℕ) (l : Controller) (m : Lists) → Sound l m → Sound (rings .lend o l) (lists .lend o m)
+lent-sound o l m h = record { is = ap (lists .lend o) (h .is); formed = h .formed; size = h .size }
+
+pub lent-same : (l : Controller) (m : Lists) (c : Lent) → Sound l m → stepLent rings l c .answer ≡ stepLent lists m c .answer
+lent-same l m c h = same-answer (rings .lend (c .output) l) (lists .lend (c .output) m) (c .call) (lent-sound (c .output) l m h)
+
+pub lent-stays : (l : Controller) (m : Lists) (c : Lent) → Sound l m → Sound (stepLent rings l c .next) (stepLent lists m c .next)
+lent-stays l m c h = stays-sound (rings .lend (c .output) l) (lists .lend (c .output) m) (c .call) (lent-sound (c .output) l m h)
+
+pub same-final : (cs : List Lent) (l : Controller) (m : Lists) → Sound l m → Sound (final rings l cs) (final lists m cs)
 unfolding final
 same-final [] l m h = h
-same-final (c ∷ cs) l m h = same-final cs (step rings l c .next) (step lists m c .next) (stays-sound l m c h)
+same-final (c ∷ cs) l m h = same-final cs (stepLent rings l c .next) (stepLent lists m c .next) (lent-stays l m c h)
 
 -- ── Well formed, whatever the store ───────────────────────────────────────────────────────────────────────────
 not-equal : (m n : ℕ) → (m ≡ n → ⊥) → eqb m n ≡ false

@@ -1,7 +1,7 @@
 -- The tests of a decision: what is known where none holds, and where one does.
 use Prim.Native.Nat.{ℕ}
 use mathlib.Core.Path.{_≡_, refl, sym, subst}
-use mathlib.Core.Bool.{Bool, true, false, not, _&&_, false≢true}
+use mathlib.Core.Bool.{Bool, true, false, cond, not, _&&_, false≢true}
 use mathlib.Core.Option.{none, some, Option·none-ne-some, Option·some-injective}
 use lib.Dec.{eqb}
 use Rattle.model.specs.Decision.{Decision, does, _⇒_∣_, first}
@@ -15,6 +15,11 @@ pub passed : (ts : Decision) → first ts ≡ none → Passed ts
 passed (does x) e = tt
 passed (true ⇒ n ∣ ts) e = absurd (Option·none-ne-some n (sym e))
 passed (false ⇒ n ∣ ts) e = (refl, passed ts e)
+
+-- what holds of both, of one of two decisions
+pub of-two : (P : Decision → Type 0) (b : Bool) (x y : Decision) → (b ≡ true → P x) → (b ≡ false → P y) → P (cond b x y)
+of-two P true x y f g = f refl
+of-two P false x y f g = g refl
 
 -- no test answers 0 or 19
 abbrev pub refusals : Decision → Bool

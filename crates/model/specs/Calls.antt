@@ -1,4 +1,5 @@
--- The seven bus events, 01's section 'Bus events', each one decision; and every call.
+-- The seven bus events, 01's section 'Bus events', each one decision. `Bursts` has send, receive and finish in an open burst, and `decide`,
+-- with 18 before each event's own order.
 use Prim.Native.Nat.{ℕ, _+_, _-_, _*_, _/_, _%_, _^_}
 use mathlib.Core.Bool.{Bool, true, false, cond, not, _&&_, _||_}
 use lib.Dec.{leb, ltb, eqb}
@@ -9,13 +10,11 @@ use Rattle.bank.specs.declared.Transfer.{Transfer}
 use Rattle.bank.specs.declared.Phase.{Phase}
 use Rattle.bank.specs.declared.Phase.the-variants.{Idle, Writing, Reading, Requested, Answered}
 use Rattle.bank.specs.Phases.{idle, writing, reading, assigning, requested, unrequested, transfer, private, broadcast, unattached}
-use Rattle.registers.specs.Map.{registerAt}
-use Rattle.model.specs.declared.Call.{Call}
-use Rattle.model.specs.declared.Call.the-variants.{Read, Write, Start, Send, Receive, Finish, Interrupt, Request, Take}
-use Rattle.model.specs.View.{bit, QueueView, room, empty, full, last, each, View}
+use Rattle.bank.specs.Bits.{bit}
+use Rattle.model.specs.View.{QueueView, room, empty, full, last, each, View}
 use Rattle.model.specs.Decision.{keep, take, push, push2, unchanged, _withValue_, _withNumber_, _withControl_, _withPhase_, _withQueues_, Decision, does, _⇒_∣_}
 use Rattle.model.specs.Commands.{Command, Single, Ccc, twoWords, firstWord, kindOf, isEntdaa, addressOf, begun, receiptWord, entryWord}
-use Rattle.model.specs.Registers.{row, device, pending, read, write}
+use Rattle.model.specs.Registers.{device, pending}
 
 -- 6: "a transfer is open"
 abbrev pub busy : View → Bool
@@ -122,7 +121,7 @@ padded p = reading p && ltb (transfer p .moved .0 / 4) (wordsFor (transfer p .mo
 
 -- a receipt queued sets bit 5; "The sync starts at 0 and returns to 0 after 255"
 abbrev pub receipted : Control → Control
-receipted c = record { held = c .held; sync = (c .sync + 1) % 256; ibisync = c .ibisync; cmdrpending = true; ibipending = c .ibipending; daapending = c .daapending }
+receipted c = record { held = c .held; sync = (c .sync + 1) % 256; ibisync = c .ibisync; cmdrpending = true; ibipending = c .ibipending; daapending = c .daapending; burst = c .burst }
 
 -- "then the receipt (the value). 13 if a word to be pushed has no room; then nothing is pushed."
 unfoldable pub finish : View → ℕ → Decision
@@ -130,8 +129,7 @@ finish s code =
     let t = transfer (s .phase) in
     let q = s .queues in
     let r = receiptWord code (t .moved .0) (s .control .sync) in
-    ltb 15 code ⇒ 18
-    ∣ s .control .held ⇒ 5
+    s .control .held ⇒ 5
     ∣ idle (s .phase) ⇒ 7
     ∣ not (allowed (s .phase) code) ⇒ 14
     ∣ full (q .cmdr) || (padded (s .phase) && full (q .sdi)) ⇒ 13
@@ -140,15 +138,14 @@ finish s code =
 -- ── Interrupt request: "5, 6, 16 (listen 0), 17 (enable 0, or not attached, or may not interrupt), 13" ────────
 -- an accepted interrupt sets bit 6, and has "its own sync"
 abbrev pub interrupted : Control → Control
-interrupted c = record { held = c .held; sync = c .sync; ibisync = (c .ibisync + 1) % 256; cmdrpending = c .cmdrpending; ibipending = true; daapending = c .daapending }
+interrupted c = record { held = c .held; sync = c .sync; ibisync = (c .ibisync + 1) % 256; cmdrpending = c .cmdrpending; ibipending = true; daapending = c .daapending; burst = c .burst }
 
 -- IBI_CONFIG: "bit 1 listen, bit 0 enable". "A device that sends no byte is stored with 0. Value: the entry."
 unfoldable pub interrupt : View → ℕ → ℕ → Decision
 interrupt s a byte =
     let f = device a s in
     let e = entryWord a (cond (bit 2 f) byte 0) (s .control .ibisync) in
-    ltb 127 a ⇒ 18
-    ∣ s .control .held ⇒ 5
+    s .control .held ⇒ 5
     ∣ busy s ⇒ 6
     ∣ not (bit 1 (s .regs .config)) ⇒ 16
     ∣ not (bit 0 (s .regs .config) && bit 0 f && bit 1 f) ⇒ 17
@@ -180,15 +177,3 @@ takeAddress s =
     ∣ not (requested (s .phase)) ⇒ 10
     ∣ empty q ⇒ 12
     ∣ does (unchanged s withValue q .first / 2 ^ 25 withNumber cond odd 0 19 withControl asked (not odd && last q) (s .control) withPhase cond odd (Answered t) (Requested t) withQueues each keep keep (take 1) keep keep)
-
--- ── Any call ──────────────────────────────────────────────────────────────────────────────────────────────────
-abbrev pub decide : View → Call → Decision
-decide s (Read o) = read (row (registerAt o)) s
-decide s (Write o v) = write (row (registerAt o)) s v
-decide s Start = start s
-decide s Send = send s
-decide s (Receive byte) = receive s byte
-decide s (Finish code) = finish s code
-decide s (Interrupt a byte) = interrupt s a byte
-decide s (Request v w) = request s v w
-decide s Take = takeAddress s

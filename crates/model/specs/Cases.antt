@@ -9,7 +9,7 @@ use Rattle.bank.specs.declared.Sizes.{Sizes}
 use Rattle.bank.specs.SetUp.{setUp}
 use Rattle.model.specs.declared.Call.{Call}
 use Rattle.model.specs.declared.Call.the-variants.{Read, Write, Start, Send, Receive, Finish, Interrupt, Request, Take}
-use Rattle.model.specs.Engine.{step, final}
+use Rattle.model.specs.Engine.{step, lending, final}
 use Rattle.model.specs.Rings.{Controller, rings}
 
 abbrev pub sizes : ℕ → ℕ → ℕ → ℕ → ℕ → Sizes
@@ -17,7 +17,7 @@ sizes a b c d e = record { cmd = a; cmdr = b; sdo = c; sdi = d; ibi = e }
 
 -- "Its bank has every capacity 4, almost-empty watermarks 1, almost-full 3, ID 0."
 abbrev pub session : Controller
-session = record { bank = setUp (sizes 4 4 4 4 4) (sizes 1 3 1 3 3) 0 .bank; store = replicate 20 0 }
+session = record { bank = setUp (sizes 4 4 4 4 4) (sizes 1 3 1 3 3) 0 .bank; store = replicate 20 0; output = [] }
 
 -- a call, the value and the number of its answer
 infix 70 _⇝_·_
@@ -38,7 +38,7 @@ cs then ls = record { before = cs; lines = ls }
 
 unfoldable pub allHold : List Case → Bool
 allHold [] = true
-allHold (k ∷ ks) = answered (final rings session (k .before)) (k .lines) && allHold ks
+allHold (k ∷ ks) = answered (final rings session (lending [] (k .before))) (k .lines) && allHold ks
 
 abbrev pub release : Call
 release = Write 0x040 0

@@ -9,7 +9,7 @@ use Rattle.bank.specs.declared.Kind.the-variants.{Private, Direct, Broadcast}
 use Rattle.bank.specs.declared.Transfer.{Transfer}
 use Rattle.bank.specs.declared.Phase.{Phase}
 use Rattle.bank.specs.declared.Phase.the-variants.{Writing, Reading, Unrequested}
-use Rattle.model.specs.View.{bit, bits}
+use Rattle.bank.specs.Bits.{bit, bits}
 
 -- "A CCC takes a second word"
 pub data Command : Type 0 where

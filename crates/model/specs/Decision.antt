@@ -1,4 +1,4 @@
--- What a call decides: tests in 01's order, each with its number, and where none holds an effect.
+-- What a call decides: tests in the papers' order, each with its number, and where none holds an effect.
 use Prim.Native.Nat.{ℕ}
 use mathlib.Core.Bool.{Bool, cond}
 use mathlib.Core.Option.{Option, none, some}

@@ -8,14 +8,18 @@ use mathlib.Core.Option.{Option, none, some}
 use lib.Dec.{ltb, eqb}
 use lib.ListN.{length, take}
 use Rattle.bank.specs.declared.Sizes.{Sizes}
+use Rattle.bank.specs.declared.Control.{Control}
+use Rattle.bank.specs.declared.Phase.{Phase}
+use Rattle.bank.specs.declared.Phase.the-variants.{Idle}
 use Rattle.bank.specs.Phases.{idle}
+use Rattle.bank.specs.Bursts.{bursting}
 use Rattle.bank.specs.SetUp.{setUp}
 use Rattle.model.specs.declared.Call.{Call}
-use Rattle.model.specs.declared.Call.the-variants.{Read, Write, Start, Send, Receive, Finish, Interrupt, Request, Take}
+use Rattle.model.specs.declared.Call.the-variants.{Read, Write, Start, Send, Receive, Finish, Interrupt, Request, Take, Trigger}
 use Rattle.bank.specs.declared.Answer.{Answer}
-use Rattle.model.specs.View.{bit}
+use Rattle.bank.specs.Bits.{bit}
 use Rattle.model.specs.Commands.{Command, Single, Ccc, twoWords, firstWord, wordsOf, isEntdaa, isRead, isWrite, lengthOf, receiptWord}
-use Rattle.model.specs.Engine.{Engine, step, final}
+use Rattle.model.specs.Engine.{Engine, Lent, stepLent, final}
 use Rattle.model.specs.Rings.{Controller, areas, wordsIn, rings}
 
 -- ── What a call with its answer counts as ─────────────────────────────────────────────────────────────────────
@@ -54,6 +58,7 @@ event (Finish code) a = cond (eqb (a .number) 0) (bus (finished code (a .value))
 event (Interrupt d byte) a = other
 event (Request v w) a = cond (eqb (a .number) 0) (bus addressed) other
 event Take a = cond (eqb (a .number) 0 || eqb (a .number) 19) (bus addressed) other
+event Trigger a = other
 
 -- ── The tally since the last release ──────────────────────────────────────────────────────────────────────────
 -- a word written to CMD
@@ -220,7 +225,7 @@ receiptsOf [] = []
 receiptsOf (r ∷ rs) = receiptIn (r .ending) ++ receiptsOf rs
 
 -- ── The demand ────────────────────────────────────────────────────────────────────────────────────────────────
--- of a tally, whether a transfer is open at the end, and the words that CMD and CMDR then hold
+-- of a tally, whether a direct transfer is open at the end, and the words that CMD and CMDR then hold
 pub record Demand3 (t : Tally) (transferOpen : Bool) (cmd cmdr : List ℕ) : Type 0 where
   -- 1: "The bus started the first of these, in order, each once"
   pub started : Each (λ i r c. r .value ≡ firstWord c) 0 (runs t) (commands t)
@@ -246,16 +251,21 @@ pub record Demand3 (t : Tally) (transferOpen : Bool) (cmd cmdr : List ℕ) : Typ
 
 -- ── Every list of calls ───────────────────────────────────────────────────────────────────────────────────────
 module _ {B : Type 0} (g : Engine B) where
-  unfoldable pub tally : Option Tally → B → List Call → Option Tally
+  unfoldable pub tally : Option Tally → B → List Lent → Option Tally
   tally o b [] = o
-  tally o b (c ∷ cs) = tally (follow o (event c (step g b c .answer))) (step g b c .next) cs
+  tally o b (c ∷ cs) = tally (follow o (event (c .call) (stepLent g b c .answer))) (stepLent g b c .next) cs
 
--- "The fresh bank comes from a set-up answered 0; its store may hold anything." The list ends released: its tally is some t.
+-- 02 §3: "demand 3 speaks of direct commands only": a transfer of a burst is none of theirs
+abbrev pub directPhase : Control → Phase → Phase
+directPhase c p = cond (bursting c) Idle p
+
+-- "The fresh bank comes from a set-up answered 0; its store may hold anything." The list ends released: its tally is some t. 02 §3: it
+-- "holds with triggers in its list", whatever output each call is lent.
 unfoldable pub Demand : Type 0
 Demand =
-    (caps marks : Sizes) (id : ℕ) (store : List ℕ) (cs : List Call) (t : Tally) → setUp caps marks id .answer .number ≡ 0
-    → let b : Controller = record { bank = setUp caps marks id .bank; store = store } in
+    (caps marks : Sizes) (id : ℕ) (store : List ℕ) (cs : List Lent) (t : Tally) → setUp caps marks id .answer .number ≡ 0
+    → let b : Controller = record { bank = setUp caps marks id .bank; store = store; output = [] } in
     tally rings none b cs ≡ some t
     → let l = final rings b cs in
     let a = areas (l .bank .state .queues) in
-    Demand3 t (not (idle (l .bank .state .phase))) (wordsIn (a .cmd) (l .store)) (wordsIn (a .cmdr) (l .store))
+    Demand3 t (not (idle (directPhase (l .bank .state .control) (l .bank .state .phase)))) (wordsIn (a .cmd) (l .store)) (wordsIn (a .cmdr) (l .store))

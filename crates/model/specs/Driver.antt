@@ -7,16 +7,18 @@ use lib.ListN.{length, getD, drop}
 use Rattle.bank.specs.declared.Control.{Control}
 use Rattle.bank.specs.declared.Sizes.{Sizes}
 use Rattle.bank.specs.Phases.{idle, transfer}
+use Rattle.bank.specs.Bursts.{bursting}
 use Rattle.bank.specs.SetUp.{setUp, total, cleared}
 use Rattle.bank.specs.Formed.{wellFormed}
 use Rattle.registers.specs.Map.{registerAt}
 use Rattle.model.specs.declared.Call.{Call}
 use Rattle.model.specs.declared.Call.the-variants.{Read, Write, Finish}
-use Rattle.model.specs.View.{bit, bits, weigh, View, Queue, Cmdr, Sdo, Ibi, of, full, last}
+use Rattle.bank.specs.Bits.{bit, bits, weigh}
+use Rattle.model.specs.View.{View, Queue, Cmdr, Sdo, Ibi, of, full, last}
 use Rattle.model.specs.Commands.{receiptWord}
 use Rattle.model.specs.Calls.{padded}
-use Rattle.model.specs.Registers.{Cell, scratch, mask, ops, ibiConfig, devChar, offloadCmd, offloadSdo, Row, absent, shows, holds, pushes, takes, enables, acknowledges, row}
-use Rattle.model.specs.Engine.{step, final}
+use Rattle.model.specs.Registers.{Cell, scratch, mask, ops, ibiConfig, devChar, offloadCmd, offloadSdo, Row, absent, shows, holds, pushes, takes, enables, acknowledges, burstHolds, row}
+use Rattle.model.specs.Engine.{step, Lent, lending, final}
 use Rattle.model.specs.Rings.{Controller, areas, wordsIn, viewRings, rings}
 use Rattle.model.specs.Laws.{fresh, same}
 
@@ -42,10 +44,10 @@ Within devChar v l = bits 15 9 v < length (l .bank .flags)
 Within (offloadCmd i) v l = i < length (l .bank .commands)
 Within (offloadSdo i) v l = i < length (l .bank .payloads)
 
--- a write to such a register is taken, in reset too
+-- a write to such a register is taken, in reset too, but to OPS and the offload memories not while a burst is open: then it is 6
 unfoldable pub PlainWriteTaken : Type 0
 PlainWriteTaken =
-    (l : Controller) (o v : ℕ) (c : Cell) → row (registerAt o) ≡ holds c → wellFormed (l .bank) ≡ true → length (l .store) ≡ total (l .bank .state .queues) → step rings l (Write o v) .answer ≡ record { value = 0; number = 0 }
+    (l : Controller) (o v : ℕ) (c : Cell) → row (registerAt o) ≡ holds c → wellFormed (l .bank) ≡ true → length (l .store) ≡ total (l .bank .state .queues) → step rings l (Write o v) .answer ≡ record { value = 0; number = cond (burstHolds c && bursting (l .bank .state .control)) 6 0 }
 
 unfoldable pub ReadBack : Type 0
 ReadBack =
@@ -59,7 +61,7 @@ pub record RoomIs (l : Controller) (caps : Sizes) : Type 0 where
 
 unfoldable pub RoomAndWords : Type 0
 RoomAndWords =
-    (caps marks : Sizes) (id : ℕ) (store : List ℕ) (cs : List Call) → setUp caps marks id .answer .number ≡ 0 → length store ≡ total (setUp caps marks id .bank .state .queues) → RoomIs (final rings (fresh caps marks id store) cs) caps
+    (caps marks : Sizes) (id : ℕ) (store : List ℕ) (cs : List Lent) → setUp caps marks id .answer .number ≡ 0 → length store ≡ total (setUp caps marks id .bank .state .queues) → RoomIs (final rings (fresh caps marks id store) cs) caps
 
 -- ── What a read changes ───────────────────────────────────────────────────────────────────────────────────────
 abbrev pub takesWord : Row → Bool
@@ -84,6 +86,7 @@ pub record ControlAfter (q : Queue) (emptied : Bool) (c d : Control) : Type 0 wh
   pub cmdrpending : d .cmdrpending ≡ cond (same Cmdr q && emptied) false (c .cmdrpending)
   pub ibipending : d .ibipending ≡ cond (same Ibi q && emptied) false (c .ibipending)
   pub daapending : d .daapending ≡ c .daapending
+  pub burst : d .burst ≡ c .burst
 
 abbrev pub wordsOf : Queue → Controller → List ℕ
 wordsOf q l = wordsIn (of q (areas (l .bank .state .queues))) (l .store)
@@ -92,6 +95,7 @@ pub record ReadTook (l m : Controller) (value : ℕ) (q : Queue) : Type 0 where
   pub first : value ≡ getD (wordsOf q l) 0 0
   pub words : wordsOf q m ≡ drop 1 (wordsOf q l)
   pub store : m .store ≡ l .store
+  pub output : m .output ≡ l .output
   pub regs : m .bank .state .regs ≡ l .bank .state .regs
   pub phase : m .bank .state .phase ≡ l .bank .state .phase
   pub flags : m .bank .flags ≡ l .bank .flags
@@ -129,7 +133,7 @@ pub record Outlives (l m : Controller) : Type 0 where
 unfoldable pub ResetKeeps : Type 0
 ResetKeeps = (l : Controller) (v : ℕ) → Outlives l (step rings l (Write 0x040 v) .next)
 
--- ── A finish refused for room, then made again after reads: refused for room alone, else with the receipt of the first ──
+-- ── A finish outside a burst, refused for room, then made again after reads: refused for room alone, else with the first's receipt ──
 abbrev pub reads : List ℕ → List Call
 reads [] = []
 reads (o ∷ os) = Read o ∷ reads os
@@ -139,6 +143,6 @@ noRoom s = full (s .queues .cmdr) || (padded (s .phase) && full (s .queues .sdi)
 
 unfoldable pub RefusedFinishAgain : Type 0
 RefusedFinishAgain =
-    (l : Controller) (code : ℕ) (os : List ℕ) → step rings l (Finish code) .answer .number ≡ 13
-    → let m = final rings (step rings l (Finish code) .next) (reads os) in
+    (l : Controller) (code : ℕ) (os : List ℕ) → bursting (l .bank .state .control) ≡ false → step rings l (Finish code) .answer .number ≡ 13
+    → let m = final rings (step rings l (Finish code) .next) (lending (l .output) (reads os)) in
     step rings m (Finish code) .answer ≡ cond (noRoom (viewRings m)) (record { value = 0; number = 13 }) (record { value = receiptWord code (transfer (l .bank .state .phase) .moved .0) (l .bank .state .control .sync); number = 0 })

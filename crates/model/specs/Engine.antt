@@ -1,4 +1,5 @@
--- One step of any engine: what it shows of its state, the tests that stand before every call, and how it settles an effect.
+-- One step of any engine: what it shows of its state, the tests that stand before every call, and how it settles an effect. The state has
+-- the output that is lent to the call.
 use Prim.Native.Nat.{ℕ}
 use mathlib.Core.List.{List, [], _∷_}
 use mathlib.Core.Option.{Option, none, some}
@@ -6,12 +7,13 @@ use Rattle.model.specs.declared.Call.{Call}
 use Rattle.bank.specs.declared.Answer.{Answer}
 use Rattle.model.specs.View.{View}
 use Rattle.model.specs.Decision.{Effect, Decision, first, effect}
-use Rattle.model.specs.Calls.{decide}
+use Rattle.model.specs.Bursts.{decide}
 
 pub record Engine (B : Type 0) : Type 0 where
   pub view : B → View
   pub guard : B → Decision → Decision
   pub settle : B → Effect → B
+  pub lend : List ℕ → B → B  -- another output
 
 pub record Step (B : Type 0) : Type 0 where
   pub answer : Answer
@@ -25,12 +27,25 @@ outcome none e before after = record { answer = record { value = e .value; numbe
 unfoldable pub step : {B : Type 0} → Engine B → B → Call → Step B
 step g b c = let d = g .guard b (decide (g .view b) c) in outcome (first d) (effect d) b (g .settle b (effect d))
 
--- "Each call gets the bank and store that the last one left"
-module _ {B : Type 0} (g : Engine B) where
-  unfoldable pub final : B → List Call → B
-  final b [] = b
-  final b (c ∷ cs) = final (step g b c .next) cs
+-- a call, and the output that is lent to it
+pub record Lent : Type 0 where
+  pub output : List ℕ
+  pub call : Call
 
-  unfoldable pub answers : B → List Call → List Answer
+-- calls that are each lent the output o, whatever the one before left in its own
+unfoldable pub lending : List ℕ → List Call → List Lent
+lending o [] = []
+lending o (c ∷ cs) = record { output = o; call = c } ∷ lending o cs
+
+-- "Each call gets the bank and store that the last one left"; of the output nothing is said, so each call may get any
+module _ {B : Type 0} (g : Engine B) where
+  abbrev pub stepLent : B → Lent → Step B
+  stepLent b c = step g (g .lend (c .output) b) (c .call)
+
+  unfoldable pub final : B → List Lent → B
+  final b [] = b
+  final b (c ∷ cs) = final (stepLent b c .next) cs
+
+  unfoldable pub answers : B → List Lent → List Answer
   answers b [] = []
-  answers b (c ∷ cs) = step g b c .answer ∷ answers (step g b c .next) cs
+  answers b (c ∷ cs) = stepLent b c .answer ∷ answers (stepLent b c .next) cs

@@ -9,15 +9,16 @@ use Rattle.bank.specs.SetUp.{setUp, total}
 use Rattle.bank.specs.Formed.{wellFormed}
 use Rattle.registers.specs.Map.{registerAt}
 use Rattle.model.specs.declared.Call.{Call}
-use Rattle.model.specs.declared.Call.the-variants.{Read, Write, Start, Send, Receive, Finish, Interrupt, Request, Take}
-use Rattle.model.specs.View.{bit, Queue, Cmd, Cmdr, Sdo, Sdi, Ibi, each, of}
+use Rattle.model.specs.declared.Call.the-variants.{Read, Write, Start, Send, Receive, Finish, Interrupt, Request, Take, Trigger}
+use Rattle.bank.specs.Bits.{bit}
+use Rattle.model.specs.View.{Queue, Cmd, Cmdr, Sdo, Sdi, Ibi, each, of}
 use Rattle.model.specs.Registers.{Row, absent, shows, holds, pushes, takes, enables, acknowledges, row}
-use Rattle.model.specs.Engine.{Step, step, final, answers}
+use Rattle.model.specs.Engine.{Step, step, Lent, final, answers}
 use Rattle.model.specs.Rings.{Controller, areas, wordsIn, viewRings, rings}
 use Rattle.model.specs.Lists.{ListQueue, Lists, lists}
 
 abbrev pub fresh : Sizes → Sizes → ℕ → List ℕ → Controller
-fresh caps marks id store = record { bank = setUp caps marks id .bank; store = store }
+fresh caps marks id store = record { bank = setUp caps marks id .bank; store = store; output = [] }
 
 -- the same set-up with every queue an empty list
 abbrev pub emptyQueue : ℕ → ℕ → ListQueue
@@ -30,13 +31,13 @@ freshLists c m id =
 
 -- From the same set-up answered 0, with a store of the right length and any contents, both engines give equal answers along every list
 -- of calls, and each ring then holds the words of its list.
-pub record Agreement (caps marks : Sizes) (id : ℕ) (store : List ℕ) (cs : List Call) : Type 0 where
+pub record Agreement (caps marks : Sizes) (id : ℕ) (store : List ℕ) (cs : List Lent) : Type 0 where
   pub sameAnswers : answers rings (fresh caps marks id store) cs ≡ answers lists (freshLists caps marks id) cs
   pub sameWords : (k : Queue) → (let l = final rings (fresh caps marks id store) cs in wordsIn (of k (areas (l .bank .state .queues))) (l .store) ≡ of k (final lists (freshLists caps marks id) cs .queues) .words)
 
 unfoldable pub EnginesAgree : Type 0
 EnginesAgree =
-    (caps marks : Sizes) (id : ℕ) (store : List ℕ) (cs : List Call) → setUp caps marks id .answer .number ≡ 0 → length store ≡ total (setUp caps marks id .bank .state .queues) → Agreement caps marks id store cs
+    (caps marks : Sizes) (id : ℕ) (store : List ℕ) (cs : List Lent) → setUp caps marks id .answer .number ≡ 0 → length store ≡ total (setUp caps marks id .bank .state .queues) → Agreement caps marks id store cs
 
 -- With a bank that is not well formed every call is 21; else with a store of any other length every call is 22. Nothing changes.
 abbrev pub refused : Controller → ℕ → Step Controller
@@ -50,7 +51,7 @@ WrongLength =
     (l : Controller) (c : Call) → wellFormed (l .bank) ≡ true → (length (l .store) ≡ total (l .bank .state .queues) → ⊥)
     → step rings l c ≡ refused l 22
 
--- Any number but 0 and 19 leaves bank and store as they were, and the value is 0.
+-- Any number but 0 and 19 leaves bank, store and output as they were, and the value is 0.
 unfoldable pub RefusalChangesNothing : Type 0
 RefusalChangesNothing =
     (l : Controller) (c : Call) → let r = step rings l c in (r .answer .number ≡ 0 → ⊥) → (r .answer .number ≡ 19 → ⊥) → (r .next ≡ l) × (r .answer .value ≡ 0)
@@ -64,6 +65,10 @@ StaysWellFormed = (l : Controller) (c : Call) → wellFormed (l .bank) ≡ true 
 
 unfoldable pub StoreKeepsLength : Type 0
 StoreKeepsLength = (l : Controller) (c : Call) → length (step rings l c .next .store) ≡ length (l .store)
+
+-- So does the output.
+unfoldable pub OutputKeepsLength : Type 0
+OutputKeepsLength = (l : Controller) (c : Call) → length (step rings l c .next .output) ≡ length (l .output)
 
 -- ── Which queues a call names ─────────────────────────────────────────────────────────────────────────────────
 abbrev pub same : Queue → Queue → Bool
@@ -102,6 +107,7 @@ names (Finish code) k = same Cmdr k || same Sdi k
 names (Interrupt a byte) k = same Ibi k
 names (Request v w) k = same Sdi k
 names Take k = same Sdo k
+names Trigger k = false
 
 -- Head, level and words of a queue that a call does not name stay, and so does its place in the store.
 unfoldable pub OthersStay : Type 0

@@ -3,12 +3,15 @@ pub mod Decision
 pub mod Commands
 pub mod Registers
 pub mod Calls
+pub mod Bursts
 pub mod Engine
 pub mod Rings
 pub mod Lists
 pub mod Laws
 pub mod Demand
+pub mod BurstLaw
 pub mod Cases
+pub mod BurstCases
 pub mod Tallies
 pub mod Driver
 pub mod Endings

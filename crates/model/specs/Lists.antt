@@ -46,5 +46,8 @@ settleLists l e =
     let q = l .queues in
     record { regs = e .regs; control = e .control; phase = e .phase; tables = e .tables; queues = each (onList (o .cmd) (q .cmd)) (onList (o .cmdr) (q .cmdr)) (onList (o .sdo) (q .sdo)) (onList (o .sdi) (q .sdi)) (onList (o .ibi) (q .ibi)) }
 
+abbrev pub lentTables : List ℕ → Tables → Tables
+lentTables o t = record { flags = t .flags; commands = t .commands; payloads = t .payloads; output = o }
+
 abbrev pub lists : Engine Lists
-lists = record { view = viewLists; guard = λ l d. d; settle = settleLists }
+lists = record { view = viewLists; guard = λ l d. d; settle = settleLists; lend = λ o l. record { regs = l .regs; control = l .control; phase = l .phase; tables = lentTables o (l .tables); queues = l .queues } }

@@ -7,10 +7,12 @@ use Rattle.bank.specs.declared.Regs.{Regs}
 use Rattle.bank.specs.declared.Control.{Control}
 use Rattle.bank.specs.declared.Phase.the-variants.{Idle}
 use Rattle.bank.specs.Phases.{idle}
+use Rattle.bank.specs.Bursts.{bursting}
 use Rattle.bank.specs.SetUp.{cleared}
 use Rattle.registers.specs.declared.Register.{Register}
 use Rattle.registers.specs.declared.Register.the-variants.{Version, Id, Scratch, Enable, IrqMask, IrqPending, IrqSource, CmdRoom, CmdrLevel, SdoRoom, SdiLevel, IbiLevel, CmdFifo, CmdrFifo, SdoFifo, SdiFifo, IbiFifo, FifoStatus, Ops, IbiConfig, DevChar, OffloadCmd, OffloadSdo, Unmapped}
-use Rattle.model.specs.View.{bit, bits, weigh, Queue, Cmd, Cmdr, Sdo, Sdi, Ibi, each, of, room, empty, full, last, Tables, View}
+use Rattle.bank.specs.Bits.{bit, bits, weigh}
+use Rattle.model.specs.View.{Queue, Cmd, Cmdr, Sdo, Sdi, Ibi, each, of, room, empty, full, last, Tables, View}
 use Rattle.model.specs.Decision.{clear, take, push, only, Effect, unchanged, _withValue_, _withRegs_, _withControl_, _withPhase_, _withTables_, _withQueues_, Decision, does, _⇒_∣_}
 
 -- what a register that stores something stores
@@ -104,14 +106,24 @@ storedTables scratch v t = t
 storedTables mask v t = t
 storedTables ops v t = t
 storedTables ibiConfig v t = t
-storedTables devChar v t = record { flags = cond (bit 8 v) (set (t .flags) (bits 15 9 v) (bits 3 1 v)) (t .flags); commands = t .commands; payloads = t .payloads }
-storedTables (offloadCmd i) v t = record { flags = t .flags; commands = set (t .commands) i v; payloads = t .payloads }
-storedTables (offloadSdo i) v t = record { flags = t .flags; commands = t .commands; payloads = set (t .payloads) i v }
+storedTables devChar v t = record { flags = cond (bit 8 v) (set (t .flags) (bits 15 9 v) (bits 3 1 v)) (t .flags); commands = t .commands; payloads = t .payloads; output = t .output }
+storedTables (offloadCmd i) v t = record { flags = t .flags; commands = set (t .commands) i v; payloads = t .payloads; output = t .output }
+storedTables (offloadSdo i) v t = record { flags = t .flags; commands = t .commands; payloads = set (t .payloads) i v; output = t .output }
+
+-- 02 §3: "While a burst is open, writes to OPS and both offload memories are dropped whole (6, after 4)."
+abbrev pub burstHolds : Cell → Bool
+burstHolds scratch = false
+burstHolds mask = false
+burstHolds ops = true
+burstHolds ibiConfig = false
+burstHolds devChar = false
+burstHolds (offloadCmd i) = true
+burstHolds (offloadSdo i) = true
 
 -- ── Control bits ──────────────────────────────────────────────────────────────────────────────────────────────
 -- other pending bits: 5 receipt, 6 interrupt, 7 address request
 abbrev pub pending : Bool → Bool → Bool → Control → Control
-pending r i a c = record { held = c .held; sync = c .sync; ibisync = c .ibisync; cmdrpending = r; ibipending = i; daapending = a }
+pending r i a c = record { held = c .held; sync = c .sync; ibisync = c .ibisync; cmdrpending = r; ibipending = i; daapending = a; burst = c .burst }
 
 -- "A read that empties CMDR clears bit 5, IBI bit 6; an accepted SDO write clears bit 7": where b holds
 abbrev pub clears : Queue → Bool → Control → Control
@@ -126,16 +138,16 @@ abbrev pub acknowledged : ℕ → Control → Control
 acknowledged v c = pending (not (bit 5 v) && c .cmdrpending) (not (bit 6 v) && c .ibipending) (not (bit 7 v) && c .daapending) c
 
 abbrev pub released : Control → Control
-released c = record { held = false; sync = c .sync; ibisync = c .ibisync; cmdrpending = c .cmdrpending; ibipending = c .ibipending; daapending = c .daapending }
+released c = record { held = false; sync = c .sync; ibisync = c .ibisync; cmdrpending = c .cmdrpending; ibipending = c .ibipending; daapending = c .daapending; burst = c .burst }
 
 -- "Writing 1 resets queues, transfer, pending bits and syncs and holds them; other registers and the device table stay. Writing 0
--- then releases; once released it changes nothing."
+-- then releases; once released it changes nothing." Of a burst, "the last finish or a reset closes it".
 unfoldable pub enable : View → Bool → Effect
 enable s true = unchanged s withControl cleared true withPhase Idle withQueues each clear clear clear clear clear
 enable s false = unchanged s withControl released (s .control)
 
 -- ── Reads and writes, by their row ────────────────────────────────────────────────────────────────────────────
--- "For accesses: 21, 22, 4, 2, 5, 1, 3"; 21 and 22 stand before every call
+-- "For accesses: 21, 22, 4, 2, 5, 1, 3", with 02 §3's 6 after 4; 21 and 22 stand before every call
 abbrev pub read : Row → View → Decision
 read absent s = true ⇒ 4 ∣ does (unchanged s)
 read (shows f) s = does (unchanged s withValue f s)
@@ -150,7 +162,7 @@ read acknowledges s = does (unchanged s withValue sources (s .regs .mask) s)  --
 abbrev pub write : Row → View → ℕ → Decision
 write absent s v = true ⇒ 4 ∣ does (unchanged s)
 write (shows f) s v = true ⇒ 2 ∣ does (unchanged s)
-write (holds c) s v = does (unchanged s withRegs storedRegs c v (s .regs) withTables storedTables c v (s .tables))
+write (holds c) s v = burstHolds c && bursting (s .control) ⇒ 6 ∣ does (unchanged s withRegs storedRegs c v (s .regs) withTables storedTables c v (s .tables))
 write (pushes q) s v =
     s .control .held ⇒ 5 ∣ full (of q (s .queues)) ⇒ 1 ∣ does (unchanged s withControl clears q true (s .control) withQueues only q (push v))
 write (takes q) s v = true ⇒ 2 ∣ does (unchanged s)

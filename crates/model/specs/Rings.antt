@@ -1,4 +1,4 @@
--- The ring engine: a bank and its lent store. Promises cite this one.
+-- The ring engine: a bank, its lent store and the lent output. Promises cite this one.
 use Prim.Native.Nat.{ℕ, _+_}
 use mathlib.Core.Bool.{not}
 use mathlib.Core.List.{List}
@@ -17,6 +17,7 @@ use Rattle.model.specs.Engine.{Engine}
 pub record Controller : Type 0 where
   pub bank : Bank
   pub store : List ℕ
+  pub output : List ℕ
 
 -- ── Areas: "in one lent store of 32-bit words, end to end: CMD, CMDR, SDO, SDI, IBI" ──────────────────────────
 pub record Area : Type 0 where
@@ -60,7 +61,7 @@ viewRings l =
       regs = b .state .regs;
       control = b .state .control;
       phase = b .state .phase;
-      tables = record { flags = b .flags; commands = b .commands; payloads = b .payloads };
+      tables = record { flags = b .flags; commands = b .commands; payloads = b .payloads; output = l .output };
       queues = viewQueues (b .state .queues) (l .store);
     }
 
@@ -98,6 +99,7 @@ settleRings l e =
             payloads = e .tables .payloads;
           };
       store = onStores (e .ops) (areas q) (l .store);
+      output = e .tables .output;
     }
 
 -- "21 goes first, then 22"
@@ -105,4 +107,4 @@ unfoldable pub guardRings : Controller → Decision → Decision
 guardRings l d = not (wellFormed (l .bank)) ⇒ 21 ∣ not (eqb (length (l .store)) (total (l .bank .state .queues))) ⇒ 22 ∣ d
 
 abbrev pub rings : Engine Controller
-rings = record { view = viewRings; guard = guardRings; settle = settleRings }
+rings = record { view = viewRings; guard = guardRings; settle = settleRings; lend = λ o l. record { bank = l .bank; store = l .store; output = o } }

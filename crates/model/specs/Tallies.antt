@@ -1,11 +1,12 @@
--- Demand 3 is not empty: four lists of calls on the session's bank, each with the tally that it comes to.
+-- Demand 3 is not empty: five lists of calls on the session's bank, each with the tally that it comes to.
 use Prim.Native.Nat.{ℕ, zero, suc}
 use mathlib.Core.Path.{_≡_}
 use mathlib.Core.Bool.{Bool, true, false}
 use mathlib.Core.List.{List, [], _∷_, _++_}
 use mathlib.Core.Option.{none, some}
 use Rattle.model.specs.declared.Call.{Call}
-use Rattle.model.specs.declared.Call.the-variants.{Read, Write, Start, Send, Receive, Finish, Request, Take}
+use Rattle.model.specs.declared.Call.the-variants.{Read, Write, Start, Send, Receive, Finish, Request, Take, Trigger}
+use Rattle.model.specs.Engine.{lending}
 use Rattle.model.specs.Rings.{rings}
 use Rattle.model.specs.Demand.{Written, Run, Tally, tally}
 use Rattle.model.specs.Cases.{session, release}
@@ -72,8 +73,17 @@ droppedTally =
       receipts = 0x200 ∷ 0x800001 ∷ [];
     }
 
+-- a burst between two direct commands counts for neither
+unfoldable pub burstCalls : List Call
+burstCalls =
+    release ∷ Write 0x180 0x1102 ∷ Write 0xd4 0x10 ∷ Start ∷ Finish 0 ∷ Write 0x2c0 0x110 ∷ Write 0x100 0x03 ∷ Write 0xd4 0x10 ∷ Trigger ∷ Send ∷ Finish 0 ∷ Write 0x100 0 ∷ Start ∷ Finish 0 ∷ Read 0xd8 ∷ []
+
+unfoldable pub burstTally : Tally
+burstTally = let w = took 0x10 false false in record { words = record { written = w ∷ w ∷ []; roomSeen = false; credit = 0 }; past = ended 0x10 0 0 0 ∷ ended 0x10 0 0 1 ∷ []; now = none; receipts = 0 ∷ [] }
+
 pub record Counted : Type 0 where
-  pub worked : tally rings none session sessionCalls ≡ some sessionTally
-  pub assignment : tally rings none session assignmentCalls ≡ some assignmentTally
-  pub retry : tally rings none session retryCalls ≡ some retryTally
-  pub dropped : tally rings none session droppedCalls ≡ some droppedTally
+  pub worked : tally rings none session (lending [] sessionCalls) ≡ some sessionTally
+  pub assignment : tally rings none session (lending [] assignmentCalls) ≡ some assignmentTally
+  pub retry : tally rings none session (lending [] retryCalls) ≡ some retryTally
+  pub dropped : tally rings none session (lending [] droppedCalls) ≡ some droppedTally
+  pub burst : tally rings none session (lending [] burstCalls) ≡ some burstTally

@@ -1,24 +1,12 @@
 -- What a call decides by. It sees nothing else: not where the queues lie, and not their other words. (The tests 21 and 22 belong to
 -- the engine.)
-use Prim.Native.Nat.{ℕ, suc, _-_, _%_, _/_, _^_}
-use mathlib.Core.Bool.{Bool, cond}
+use Prim.Native.Nat.{ℕ, _-_}
+use mathlib.Core.Bool.{Bool}
 use mathlib.Core.List.{List}
 use lib.Dec.{leb, eqb}
 use Rattle.bank.specs.declared.Regs.{Regs}
 use Rattle.bank.specs.declared.Control.{Control}
 use Rattle.bank.specs.declared.Phase.{Phase}
-
--- bit k of v
-abbrev pub bit : ℕ → ℕ → Bool
-bit k v = eqb (v / 2 ^ k % 2) 1
-
--- bits hi down to lo of v
-abbrev pub bits : ℕ → ℕ → ℕ → ℕ
-bits hi lo v = v / 2 ^ lo % 2 ^ (suc hi - lo)
-
--- w where b holds, else 0
-abbrev pub weigh : Bool → ℕ → ℕ
-weigh b w = cond b w 0
 
 -- ── Five of a kind ────────────────────────────────────────────────────────────────────────────────────────────
 pub data Queue : Type 0 where
@@ -64,11 +52,12 @@ full q = leb (q .cap) (q .level)
 abbrev pub last : QueueView → Bool
 last q = leb (q .level) 1
 
--- the flags of the 128 devices, the offload commands and the offload data words
+-- the flags of the 128 devices, the offload commands and the offload data words; and the output that is lent to the call
 pub record Tables : Type 0 where
   pub flags : List ℕ
   pub commands : List ℕ
   pub payloads : List ℕ
+  pub output : List ℕ
 
 pub record View : Type 0 where
   pub regs : Regs

@@ -1,7 +1,7 @@
-// The nine calls, as code and definitions name them. specs/ has each as a definition, and demand 3; proofs/ has their
+// The calls, as code and definitions name them. specs/ has each as a definition, and demand 3; proofs/ has their
 // laws. No function is here.
 
-// Two register accesses and seven bus events.
+// Two register accesses, seven bus events and the trigger of an offload burst.
 pub enum Call {
     // Offset.
     Read(u16),
@@ -18,4 +18,6 @@ pub enum Call {
     // Two words.
     Request(u32, u32),
     Take,
+    // Of an offload burst.
+    Trigger,
 }

@@ -1,10 +1,13 @@
-// Payload bytes sent and received, behind the two tests of bank and store: a layer, no interface.
+// Payload bytes sent and received outside a burst, behind the two tests of bank and store: a layer, no interface.
 ghost use mathlib.Core.Path.{_≡_};
 ghost use Prim.Native.Nat.{ℕ, _+_, _-_, _*_, _%_, _^_, _<_, _≤_};
+ghost use mathlib.Core.Bool.{true};
 ghost use mathlib.Core.List.{List};
+ghost use Rattle.bank.specs.Formed.{phaseOk};
 ghost use Rattle.model.specs.View.{Tables};
 ghost use Rattle.model.specs.Calls.{advanced, send, receive};
 ghost use Rattle.answer.specs.Given.{view, number, given, decided, Open};
+ghost use Rattle.payload.specs.Bytes.{byteNumber};
 use answer::Next;
 use bank::Phase;
 use bank::State;
@@ -12,7 +15,7 @@ use bank::Transfer;
 use bank::phases;
 
 // One byte more has moved, and the part word is `w`.
-fn advance(t: Transfer, w: u32) -> Transfer
+pub fn advance(t: Transfer, w: u32) -> Transfer
     requires { ⌜ t .moved .0 < t .length .0 ⌝ }
     ensures { λ r. ⌜ r ≡ advanced t w ⌝ }
 {
@@ -23,22 +26,29 @@ fn advance(t: Transfer, w: u32) -> Transfer
     next
 }
 
+// The number of a byte that a transfer in the phase `way` moves: 5, 7, 20, 10, 11, then `last`.
+pub fn byte_number(st: State, way: u32, last: u32) -> u32
+    ensures { λ n. ⌜ n ≡ byteNumber (st .control) (st .phase) way last ⌝ }
+{
+    let p = st.phase;
+    let t = phases::transfer_of(p);
+    let at = phases::stage_of(p);
+    let absent = phases::is_unattached(p);
+    let n = bank::select(t.length.0 <= t.moved.0, 11, last);
+    let n = bank::select(!(at == way), 10, n);
+    let n = bank::select(absent, 20, n);
+    let n = bank::select(at == phases::IDLE, 7, n);
+    bank::select(st.control.held, 5, n)
+}
+
 // The number of a send, 0 where none of its tests holds.
 fn send_number(st: State) -> u32
     ensures { λ n. ⌜ ((t : Tables) (s : List ℕ) → n ≡ number (send (view st t s))) ⌝ }
 {
     let p = st.phase;
     let t = phases::transfer_of(p);
-    let at = phases::stage_of(p);
-    let absent = phases::is_unattached(p);
-    let reached = t.length.0 <= t.moved.0;
     let starved = (t.moved.0 % 4 == 0) & (st.queues.sdo.level.0 == 0);
-    let n = bank::select(starved, 12, 0);
-    let n = bank::select(reached, 11, n);
-    let n = bank::select(!(at == phases::WRITING), 10, n);
-    let n = bank::select(absent, 20, n);
-    let n = bank::select(at == phases::IDLE, 7, n);
-    bank::select(st.control.held, 5, n)
+    byte_number(st, phases::WRITING, bank::select(starved, 12, 0))
 }
 
 // A byte sent: the first of a new SDO word, or the next of the part word.
@@ -69,21 +79,13 @@ fn receive_number(st: State) -> u32
 {
     let p = st.phase;
     let t = phases::transfer_of(p);
-    let at = phases::stage_of(p);
-    let absent = phases::is_unattached(p);
-    let reached = t.length.0 <= t.moved.0;
     let full = (t.moved.0 % 4 == 3) & (st.queues.sdi.cap.0 <= st.queues.sdi.level.0);
-    let n = bank::select(full, 13, 0);
-    let n = bank::select(reached, 11, n);
-    let n = bank::select(!(at == phases::READING), 10, n);
-    let n = bank::select(absent, 20, n);
-    let n = bank::select(at == phases::IDLE, 7, n);
-    bank::select(st.control.held, 5, n)
+    byte_number(st, phases::READING, bank::select(full, 13, 0))
 }
 
 // The weight of a byte in its word: the first has the highest.
-fn weight(moved: u32) -> u32
-    ensures { λ r. ⌜ (r ≡ 2 ^ (24 - 8 * (moved % 4))) × (r ≤ 0x1000000) ⌝ }
+pub fn weight(moved: u32) -> u32
+    ensures { λ r. ⌜ (r ≡ 2 ^ (24 - 8 * (moved % 4))) × (r ≤ 0x1000000) × (0 < r) ⌝ }
 {
     let k = moved % 4;
     let low = bank::select(k == 2, 0x100, 1);
@@ -92,7 +94,7 @@ fn weight(moved: u32) -> u32
 }
 
 // The part word with one byte more.
-fn gathered(part: u32, moved: u32, byte: u8) -> u32
+pub fn gathered(part: u32, moved: u32, byte: u8) -> u32
     requires { ⌜ part % 2 ^ (32 - 8 * (moved % 4)) ≡ 0 ⌝ }
     ensures { λ r. ⌜ r ≡ part + byte * 2 ^ (24 - 8 * (moved % 4)) ⌝ }
 {
@@ -101,7 +103,7 @@ fn gathered(part: u32, moved: u32, byte: u8) -> u32
 
 // A byte received: the fourth of a word pushes the word to SDI.
 pub fn receive(st: State, store: &mut [u32], byte: u8) -> Next
-    requires { ⌜ Open st (now store) ⌝ }
+    requires { ⌜ (Open st (now store)) × (phaseOk (st .phase) ≡ true) ⌝ }
     ensures { λ y. ⌜ ((t : Tables) → given y t (now (store .exit)) ≡ decided st t (now (store .entry)) (receive (view st t (now (store .entry))) byte)) ⌝ }
 {
     let n = receive_number(st);

@@ -1,5 +1,5 @@
 // Register reads, behind the two tests of bank and store: a layer, no interface. The call above it tests what it asks of
-// its caller.
+// its caller. The output is not lent to a read, which promises its step for every output.
 ghost use mathlib.Core.Path.{_≡_};
 ghost use mathlib.Core.Bool.{_&&_};
 ghost use mathlib.Core.List.{List};
@@ -9,7 +9,8 @@ ghost use lib.ListN.{getD};
 ghost use Rattle.bank.proofs.Laws.{Ready};
 ghost use Rattle.registers.specs.Map.{registerAt};
 ghost use Rattle.registers.specs.declared.Register.the-variants.{CmdrFifo, SdiFifo, IbiFifo};
-ghost use Rattle.model.specs.View.{bit, weigh, Tables};
+ghost use Rattle.bank.specs.Bits.{bit, weigh};
+ghost use Rattle.model.specs.View.{Tables};
 ghost use Rattle.model.specs.Registers.{sources};
 ghost use Rattle.answer.specs.Given.{tables, view, given, doneNext, Open};
 ghost use Rattle.read.specs.At.{readAt};
@@ -185,7 +186,7 @@ fn read_at(
     store: &[u32],
 ) -> Next
     requires { ⌜ (Ready (st .queues) (now store)) × (st .regs .selected < 128) ⌝ }
-    ensures { λ y. ⌜ given y (tables (now (flags .entry)) (now (commands .entry)) (now (payloads .entry))) (now (store .entry)) ≡ readAt st (tables (now (flags .entry)) (now (commands .entry)) (now (payloads .entry))) (now (store .entry)) r ⌝ }
+    ensures { λ y. ⌜ ((o : List ℕ) → (let t = tables (now (flags .entry)) (now (commands .entry)) (now (payloads .entry)) o in given y t (now (store .entry)) ≡ readAt st t (now (store .entry)) r)) ⌝ }
 {
     let q = st.queues;
     let g = st.regs;
@@ -231,7 +232,7 @@ pub fn read(
     offset: u16,
 ) -> Next
     requires { ⌜ Open st (now store) ⌝ }
-    ensures { λ y. ⌜ given y (tables (now (flags .entry)) (now (commands .entry)) (now (payloads .entry))) (now (store .entry)) ≡ readAt st (tables (now (flags .entry)) (now (commands .entry)) (now (payloads .entry))) (now (store .entry)) (registerAt offset) ⌝ }
+    ensures { λ y. ⌜ ((o : List ℕ) → (let t = tables (now (flags .entry)) (now (commands .entry)) (now (payloads .entry)) o in given y t (now (store .entry)) ≡ readAt st t (now (store .entry)) (registerAt offset))) ⌝ }
 {
     read_at(
         registers::register_at(offset),

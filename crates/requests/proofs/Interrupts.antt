@@ -4,9 +4,10 @@ use mathlib.Core.Path.{_≡_, refl}
 use mathlib.Core.Bool.{cond}
 use mathlib.Core.List.{List}
 use lib.ListN.{getD}
-use borrow.Author.Tests.{lt-ltb, leb-false}
+use borrow.Author.Tests.{leb-false}
 use Rattle.bank.specs.declared.State.{State}
-use Rattle.model.specs.View.{bit, Tables, View}
+use Rattle.bank.specs.Bits.{bit}
+use Rattle.model.specs.View.{Tables, View}
 use Rattle.model.specs.Decision.{push}
 use Rattle.model.specs.Commands.{entryWord}
 use Rattle.model.specs.Calls.{interrupted, interrupt}
@@ -14,15 +15,11 @@ use Rattle.model.specs.Rings.{area, ibiAt, onRing, onStore}
 use Rattle.answer.specs.Given.{view, number, given, doneNext, decided}
 use Rattle.answer.proofs.Laws.{cleared, served-by}
 
-pub no-device : (s : View) (address byte : ℕ) → 127 < address → 18 ≡ number (interrupt s address byte)
-unfolding interrupt
-no-device s address byte h = rw (lt-ltb 127 address h)
-
 pub ibi-room : (s : View) (address byte : ℕ) → number (interrupt s address byte) ≡ 0 → s .queues .ibi .level < s .queues .ibi .cap
 unfolding interrupt
 ibi-room s address byte e =
     let p = cleared (interrupt s address byte) refl e in
-    leb-false (s .queues .ibi .cap) (s .queues .ibi .level) (p .1 .1 .1 .1 .1 .0)
+    leb-false (s .queues .ibi .cap) (s .queues .ibi .level) (p .1 .1 .1 .1 .0)
 
 pub interrupts : (st : State) (t : Tables) (s : List ℕ) (address byte : ℕ) → number (interrupt (view st t s) address byte) ≡ 0 →
     let q = st .queues in

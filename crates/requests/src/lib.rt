@@ -1,4 +1,5 @@
-// Interrupt requests, address requests and address takes, behind the two tests of bank and store: a layer, no interface.
+// Interrupt requests, address requests and address takes, behind the two tests of bank and store and the test of the
+// address: a layer, no interface.
 ghost use mathlib.Core.Path.{_≡_};
 ghost use mathlib.Core.Bool.{cond};
 ghost use mathlib.Core.List.{List};
@@ -21,7 +22,7 @@ use bank::phases;
 
 // The number of an interrupt request from an address that has the flags `f`, 0 where none of its tests holds.
 fn interrupt_number(st: State, f: u8) -> u32
-    ensures { λ n. ⌜ ((t : Tables) (s : List ℕ) (address byte : ℕ) → address ≤ 127 → f ≡ getD (t .flags) address 0 → n ≡ number (interrupt (view st t s) address byte)) ⌝ }
+    ensures { λ n. ⌜ ((t : Tables) (s : List ℕ) (address byte : ℕ) → f ≡ getD (t .flags) address 0 → n ≡ number (interrupt (view st t s) address byte)) ⌝ }
 {
     let p = st.phase;
     let config = st.regs.config;
@@ -64,13 +65,9 @@ fn accept(c: Control) -> Control
 
 // An interrupt request of a device.
 pub fn interrupt(st: State, flags: &[u8; 128], store: &mut [u32], address: u8, byte: u8) -> Next
-    requires { ⌜ Open st (now store) ⌝ }
+    requires { ⌜ (Open st (now store)) × (address ≤ 127) ⌝ }
     ensures { λ y. ⌜ ((t : Tables) → t .flags ≡ now (flags .entry) → given y t (now (store .exit)) ≡ decided st t (now (store .entry)) (interrupt (view st t (now (store .entry))) address byte)) ⌝ }
 {
-    // First of the tests, and the look-up behind it is in range.
-    if 127 < address {
-        return answer::refuse(st, 18);
-    }
     let f = flags[address as usize];
     let n = interrupt_number(st, f);
     if n != 0 {

@@ -13,12 +13,14 @@ use Rattle.bank.specs.declared.Answer.{Answer}
 use Rattle.model.specs.declared.Call.{Call}
 use Rattle.model.specs.Engine.{step}
 use Rattle.model.specs.Rings.{Controller, rings}
-use Rattle.model.specs.Laws.{StoreKeepsLength}
-use Rattle.model.proofs.Laws.{store-keeps-length}
+use Rattle.model.specs.Laws.{StoreKeepsLength, OutputKeepsLength}
+use Rattle.model.proofs.Laws.{store-keeps-length, output-keeps-length}
+use Rattle.answer.specs.Given.{tables}
 use Rattle.lines.specs.declared.Parsed.{Parsed}
 use Rattle.lines.specs.declared.Parsed.the-variants.{Named, Skipped}
 use Rattle.lines.specs.Forms.{Form, forms, find, formOf}
-use Rattle.run.specs.Run.{Course, course, entryAt, onward, runFrom}
+use Rattle.run.specs.declared.Reached.{Reached}
+use Rattle.run.specs.Run.{Course, course, entryAt, onward, runFrom, reached}
 
 -- ── Letters are bytes ─────────────────────────────────────────────────────────────────────────────────────────
 abbrev bytes : List Form → Bool
@@ -37,10 +39,19 @@ pub no-letter : (l : ℕ) → 255 < l → formOf l ≡ none
 unfolding forms
 no-letter l h = not-found l forms h refl
 
--- ── The store keeps its length ────────────────────────────────────────────────────────────────────────────────
+-- ── Store and output keep their lengths ───────────────────────────────────────────────────────────────────────
 pub same-size : (l : Controller) (k : Call) → length (step rings l k .next .store) ≡ length (l .store)
 unfolding StoreKeepsLength
 same-size = store-keeps-length
+
+pub same-output : (l : Controller) (k : Call) → length (step rings l k .next .output) ≡ length (l .output)
+unfolding OutputKeepsLength
+same-output = output-keeps-length
+
+-- an empty output stays empty
+pub stays-empty : (y : Reached) (f c p s o : List ℕ) → length o ≡ 0 → reached y (tables f c p []) s ≡ reached y (tables f c p o) s
+stays-empty y f c p s [] e = refl
+stays-empty y f c p s (w ∷ o) e = absurd (omega (arith, e))
 
 -- ── One place ─────────────────────────────────────────────────────────────────────────────────────────────────
 module _ (n i : ℕ) (ws : List ℕ) (a : Answer) (l : Controller) where

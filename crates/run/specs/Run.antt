@@ -1,7 +1,7 @@
 -- A list of calls in numbers, three for each: a letter of 01's session, and the values of its field before the last and of its last. One
 -- definition with the session's lines says which call that is.
 use Prim.Native.Nat.{ℕ, zero, suc, _+_, _*_, _/_}
-use mathlib.Core.List.{List}
+use mathlib.Core.List.{List, []}
 use lib.ListN.{length, getD}
 use lib.Dec.{ltb}
 use mathlib.Core.Bool.{cond}
@@ -50,16 +50,17 @@ runFrom (suc n) ws i c = onward (entryAt ws i) c (runFrom n ws (suc i))
 abbrev pub within : ℕ → List ℕ → ℕ
 within limit ws = let n = length ws / 3 in cond (ltb limit n) limit n
 
--- the list on a controller: each call gets the bank and store that the last one left
+-- the list on a controller: each call gets the bank, store and output that the last one left
 abbrev pub runOf : ℕ → List ℕ → Controller → Course
 runOf limit ws l = runFrom (within limit ws) ws 0 (begun l)
 
--- what code gives, over the tables and the store that it left
+-- what code gives, over the tables, the store and the output that it left
 abbrev pub reached : Reached → Tables → List ℕ → Course
-reached r t s = course (r .count) (r .answer) (controller (bankWith (r .state) t) s)
+reached r t s = course (r .count) (r .answer) (controller (bankWith (r .state) t) s (t .output))
 
+-- the same with no output: an empty one stays empty
 abbrev pub ranOut : RunOut → List ℕ → Course
-ranOut r s = course (r .made .count) (r .made .answer) (controller (r .bank) s)
+ranOut r s = course (r .made .count) (r .made .answer) (controller (r .bank) s [])
 
 abbrev pub ranPlace : Bank → Made → List ℕ → Course
-ranPlace b r s = course (r .count) (r .answer) (controller b s)
+ranPlace b r s = course (r .count) (r .answer) (controller b s [])

@@ -1,8 +1,9 @@
 // A list of calls, lent as numbers, made one after another: by value, and on a bank that is changed where it lies. The
-// two tests of bank and store are made once, before the list: no call changes what they say.
+// two tests of bank and store are made once, before the list: no call changes what they say. Every call is lent an empty
+// output: no letter names the trigger.
 ghost use mathlib.Core.Path.{_≡_};
 ghost use mathlib.Core.Bool.{cond};
-ghost use mathlib.Core.List.{List};
+ghost use mathlib.Core.List.{List, []};
 ghost use Prim.Native.Nat.{ℕ, _+_, _*_, _/_, _≤_};
 ghost use lib.Dec.{ltb};
 ghost use lib.ListN.{length};
@@ -55,12 +56,13 @@ fn run_parts(
     commands: &mut [u32; 16],
     payloads: &mut [u32; 16],
     store: &mut [u32],
+    output: &mut [u32],
     fault: u32,
     calls: &[u32],
     n: usize,
 ) -> Reached
-    requires { ⌜ (fault ≡ faultNumber (bankWith st (tables (now flags) (now commands) (now payloads))) (length (now store))) × (3 * n ≤ length (now calls)) ⌝ }
-    ensures { λ r. ⌜ reached r (tables (now (flags .exit)) (now (commands .exit)) (now (payloads .exit))) (now (store .exit)) ≡ runFrom n (now (calls .entry)) 0 (begun (controller (bankWith st (tables (now (flags .entry)) (now (commands .entry)) (now (payloads .entry)))) (now (store .entry)))) ⌝ }
+    requires { ⌜ (fault ≡ faultNumber (bankWith st (tables (now flags) (now commands) (now payloads) (now output))) (length (now store))) × (3 * n ≤ length (now calls)) ⌝ }
+    ensures { λ r. ⌜ reached r (tables (now (flags .exit)) (now (commands .exit)) (now (payloads .exit)) (now (output .exit))) (now (store .exit)) ≡ runFrom n (now (calls .entry)) 0 (begun (controller (bankWith st (tables (now (flags .entry)) (now (commands .entry)) (now (payloads .entry)) (now (output .entry)))) (now (store .entry)) (now (output .entry)))) ⌝ }
 {
     let mut s = st;
     let mut a = Answer {
@@ -70,7 +72,16 @@ fn run_parts(
     for i in 0..n {
         match entry(calls, i) {
             Parsed::Named(c) => {
-                let y = controller::step_parts(s, flags, commands, payloads, store, fault, c);
+                let y = controller::step_parts(
+                    s,
+                    flags,
+                    commands,
+                    payloads,
+                    store,
+                    output,
+                    fault,
+                    c,
+                );
                 s = y.state;
                 a = y.answer;
             }
@@ -100,7 +111,7 @@ fn places(limit: usize, len: usize) -> usize
 
 // A bank of a state and its tables, with what was made.
 fn out_of(y: Reached, flags: [u8; 128], commands: [u32; 16], payloads: [u32; 16]) -> RunOut
-    ensures { λ r. ⌜ ((s : List ℕ) → ranOut r s ≡ reached y (tables flags commands payloads) s) ⌝ }
+    ensures { λ r. ⌜ ((s : List ℕ) → ranOut r s ≡ reached y (tables flags commands payloads []) s) ⌝ }
 {
     let s = y.state;
     let bank = Bank {
@@ -122,20 +133,31 @@ fn out_of(y: Reached, flags: [u8; 128], commands: [u32; 16], payloads: [u32; 16]
 
 // The calls of a list, at most `limit` of them; three numbers that name no call end it.
 pub fn run(b: Bank, store: &mut [u32], calls: &[u32], limit: usize) -> RunOut
-    ensures { λ r. ⌜ ranOut r (now (store .exit)) ≡ runOf limit (now (calls .entry)) (controller b (now (store .entry))) ⌝ }
+    ensures { λ r. ⌜ ranOut r (now (store .exit)) ≡ runOf limit (now (calls .entry)) (controller b (now (store .entry)) []) ⌝ }
 {
     let n = places(limit, calls.len());
     let fault = controller::fault(b, store.len());
     let mut f = b.flags;
     let mut c = b.commands;
     let mut p = b.payloads;
-    let y = run_parts(b.state, &mut f, &mut c, &mut p, store, fault, calls, n);
+    let mut none = [0u32; 0];
+    let y = run_parts(
+        b.state,
+        &mut f,
+        &mut c,
+        &mut p,
+        store,
+        &mut none,
+        fault,
+        calls,
+        n,
+    );
     out_of(y, f, c, p)
 }
 
 // The same on a bank that is changed where it lies.
 pub fn run_in_place(bank: &mut Bank, store: &mut [u32], calls: &[u32], limit: usize) -> Made
-    ensures { λ r. ⌜ ranPlace (now (bank .exit)) r (now (store .exit)) ≡ runOf limit (now (calls .entry)) (controller (now (bank .entry)) (now (store .entry))) ⌝ }
+    ensures { λ r. ⌜ ranPlace (now (bank .exit)) r (now (store .exit)) ≡ runOf limit (now (calls .entry)) (controller (now (bank .entry)) (now (store .entry)) []) ⌝ }
 {
     let out = run(*bank, store, calls, limit);
     *bank = out.bank;

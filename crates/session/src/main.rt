@@ -1,5 +1,5 @@
 // 01's session: lines from standard input, the answers of the calls that they name to standard output. It reads and
-// writes in pieces, and holds no line.
+// writes in pieces, and holds no line. Every call is lent an empty output: no letter names the trigger.
 ghost use Prim.Native.Nat.{_≤_};
 ghost use lib.ListN.{length};
 use bank::Bank;
@@ -28,7 +28,8 @@ fn turn(b: Bank, line: Reading, store: &mut [u32], out: &mut [u8]) -> Went
         };
     }
     let n = io::count(got, &piece);
-    let f = lines::feed(b, store, line, &piece[..n], out);
+    let mut none = [0u32; 0];
+    let f = lines::feed(b, store, &mut none, line, &piece[..n], out);
     let m = f.count;
     let ok = io::write_all(1, &out[..m]);
     let next = f.bank;
@@ -45,7 +46,8 @@ fn turn(b: Bank, line: Reading, store: &mut [u32], out: &mut [u8]) -> Went
 fn end(b: Bank, line: Reading, store: &mut [u32], out: &mut [u8])
     requires { ⌜ 12 ≤ length (now out) ⌝ }
 {
-    let e = lines::end_line(b, store, line, out, 0);
+    let mut none = [0u32; 0];
+    let e = lines::end_line(b, store, &mut none, line, out, 0);
     let m = e.count;
     io::write_all(1, &out[..m]);
 }

@@ -11,11 +11,11 @@ use lines::Parsed;
 use model::Call;
 
 // A call in place on a bank in a local. Whoever calls this needs no walk.
-fn step_once(b: Bank, call: Call, store: &mut [u32]) -> Out
-    ensures { λ y. ⌜ givenOut y (now (store .exit)) ≡ step rings (controller b (now (store .entry))) call ⌝ }
+fn step_once(b: Bank, call: Call, store: &mut [u32], output: &mut [u32]) -> Out
+    ensures { λ y. ⌜ givenOut y (now (store .exit)) (now (output .exit)) ≡ step rings (controller b (now (store .entry)) (now (output .entry))) call ⌝ }
 {
     let mut bank = b;
-    let answer = inplace::step_in_place(&mut bank, store, call);
+    let answer = inplace::step_in_place(&mut bank, store, output, call);
     Out {
         bank: bank,
         answer: answer,
@@ -23,7 +23,7 @@ fn step_once(b: Bank, call: Call, store: &mut [u32]) -> Out
 }
 
 // Makes the calls of a list on a bank with every capacity `cap`, up to the first three numbers that name none, and gives
-// how many it made.
+// how many it made. Every call is lent an empty output.
 #[no_mangle]
 pub extern "C" fn run_each(cap: u32, store: &mut [u32], calls: &[u32], last: &mut [u32]) -> u32 {
     let mut bank = timing::fresh(cap);
@@ -32,13 +32,14 @@ pub extern "C" fn run_each(cap: u32, store: &mut [u32], calls: &[u32], last: &mu
         number: 0,
     };
     let mut made: usize = 0;
+    let mut none = [0u32; 0];
     for i in 0..calls.len() / 3 {
         let named = run::entry(calls, i);
         let Parsed::Named(call) = named else {
             break;
         };
         made = i + 1;
-        let out = step_once(bank, call, store);
+        let out = step_once(bank, call, store, &mut none);
         bank = out.bank;
         a = out.answer;
     }

@@ -5,7 +5,7 @@ use mathlib.Core.Path.{_≡_, refl}
 use mathlib.Core.Bool.{Bool, true, false, cond, _&&_, _||_}
 use mathlib.Core.List.{List}
 use lib.Dec.{eqb, leb, ltb}
-use borrow.Author.Tests.{leb-true, leb-false, ltb-true, ltb-false}
+use borrow.Author.Tests.{leb-true, leb-false, ltb-true}
 use Rattle.bank.specs.declared.State.{State}
 use Rattle.bank.specs.declared.Phase.{Phase}
 use Rattle.bank.specs.declared.Phase.the-variants.{Idle}
@@ -21,7 +21,6 @@ use Rattle.answer.specs.Given.{view, number, given, doneNext, decided}
 use Rattle.answer.proofs.Laws.{cleared, served-by, room-of}
 
 pub record Finishes (s : View) (code : ℕ) : Type 0 where
-  pub coded : code ≤ 15
   pub receipts : s .queues .cmdr .level < s .queues .cmdr .cap
   pub words : padded (s .phase) ≡ true → s .queues .sdi .level < s .queues .sdi .cap
 
@@ -32,8 +31,8 @@ finishes s code e =
     let q = s .queues in
     let f = full (q .cmdr) in
     let g = padded (s .phase) && full (q .sdi) in
-    let n = p .1 .1 .1 .1 .0 in
-    record { coded = ltb-false 15 code (p .0); receipts = leb-false (q .cmdr .cap) (q .cmdr .level) (or-left f g n); words = room-of (padded (s .phase)) (q .sdi .cap) (q .sdi .level) (or-right f g n) }
+    let n = p .1 .1 .1 .0 in
+    record { receipts = leb-false (q .cmdr .cap) (q .cmdr .level) (or-left f g n); words = room-of (padded (s .phase)) (q .sdi .cap) (q .sdi .level) (or-right f g n) }
 
 capped : (a : Bool) (n : ℕ) → cond a 0 n ≤ n
 capped true n = omega arith

@@ -7,7 +7,8 @@ use lib.ListN.{getD}
 use borrow.Author.Tests.{not-false}
 use Rattle.bank.specs.declared.State.{State}
 use Rattle.bank.specs.Phases.{broadcast}
-use Rattle.model.specs.View.{bit, bits, Tables, View}
+use Rattle.bank.specs.Bits.{bit, bits}
+use Rattle.model.specs.View.{Tables, View}
 use Rattle.model.specs.Decision.{take}
 use Rattle.model.specs.Commands.{twoWords, kindOf, begun}
 use Rattle.model.specs.Calls.{start, whole, wordCount}

@@ -8,7 +8,7 @@ use Rattle.bank.specs.declared.Kind.the-variants.{Private, Direct, Broadcast}
 use Rattle.bank.specs.declared.Transfer.{Transfer}
 use Rattle.bank.specs.declared.Phase.the-variants.{Writing, Reading, Unrequested}
 use Rattle.ring.specs.Units.{bytes}
-use Rattle.model.specs.View.{bit}
+use Rattle.bank.specs.Bits.{bit}
 use Rattle.model.specs.Commands.{firstWord, kindOf, isEntdaa, isRead, lengthOf, opened, begun}
 use Rattle.transfer.specs.Word.{commandOf}
 

@@ -1,12 +1,15 @@
-// The start and the end of a transfer, behind the two tests of bank and store: a layer, no interface.
+// The start and the end of a transfer outside a burst, behind the two tests of bank and store and the test of the code: a
+// layer, no interface.
 ghost use mathlib.Core.Path.{_≡_};
-ghost use mathlib.Core.Bool.{cond, _||_};
+ghost use mathlib.Core.Bool.{cond, true, _||_};
 ghost use Prim.Native.Nat.{ℕ, _≤_, _<_};
 ghost use mathlib.Core.List.{List};
 ghost use lib.ListN.{getD};
 ghost use Rattle.bank.specs.Phases.{broadcast};
-ghost use Rattle.model.specs.View.{Tables, bit, bits};
-ghost use Rattle.model.specs.Commands.{kindOf, isEntdaa, opened, begun, receiptWord};
+ghost use Rattle.bank.specs.Formed.{phaseOk};
+ghost use Rattle.bank.specs.Bits.{bit, bits};
+ghost use Rattle.model.specs.View.{Tables};
+ghost use Rattle.model.specs.Commands.{Single, kindOf, isEntdaa, opened, begun, receiptWord};
 ghost use Rattle.model.specs.Calls.{start, finish, endsEntdaa, endsOther, allowed, padded, receipted};
 ghost use Rattle.answer.specs.Given.{view, number, given, decided, tables, Open};
 ghost use Rattle.transfer.specs.Word.{commandOf};
@@ -85,6 +88,15 @@ fn is_attached(flags: &[u8; 128], k: Kind, w: u32) -> bool
     phases::is_broadcast(k) | (f / 1 % 2 == 1)
 }
 
+// The transfer that a private command opens: its device may be attached now.
+pub fn private_phase(flags: &[u8; 128], w: u32) -> Phase
+    ensures { λ p. ⌜ p ≡ begun (Single w) (broadcast (kindOf (Single w)) || bit 0 (getD (now (flags .entry)) (bits 7 1 w) 0)) ⌝ }
+{
+    let k = kind_of(false, w, 0);
+    let a = is_attached(flags, k, w);
+    begun_by(false, w, 0, a)
+}
+
 // The number of a start, 0 where none of its tests holds: `w` and `x` are the first words of CMD.
 fn start_number(st: State, w: u32, x: u32) -> u32
     ensures { λ n. ⌜ ((t : Tables) (s : List ℕ) → w ≡ view st t s .queues .cmd .first → x ≡ view st t s .queues .cmd .second → n ≡ number (start (view st t s))) ⌝ }
@@ -105,7 +117,7 @@ fn start_number(st: State, w: u32, x: u32) -> u32
 // The first command of CMD starts.
 pub fn start(st: State, flags: &[u8; 128], store: &[u32]) -> Next
     requires { ⌜ Open st (now store) ⌝ }
-    ensures { λ y. ⌜ ((c p : List ℕ) → (let t = tables (now (flags .entry)) c p in given y t (now (store .entry)) ≡ decided st t (now (store .entry)) (start (view st t (now (store .entry)))))) ⌝ }
+    ensures { λ y. ⌜ ((c p o : List ℕ) → (let t = tables (now (flags .entry)) c p o in given y t (now (store .entry)) ≡ decided st t (now (store .entry)) (start (view st t (now (store .entry)))))) ⌝ }
 {
     let w = answer::cmd_word(st.queues, store, 0);
     let x = answer::cmd_word(st.queues, store, 1);
@@ -149,7 +161,8 @@ fn ends_other(p: Phase, code: u8) -> bool
         | ((code == 1) & reads & ccc & !everything)
 }
 
-fn is_allowed(p: Phase, code: u8) -> bool
+// Whether a code may end the open transfer.
+pub fn is_allowed(p: Phase, code: u8) -> bool
     ensures { λ r. ⌜ r ≡ allowed p code ⌝ }
 {
     let assigns = phases::UNREQUESTED <= phases::stage_of(p);
@@ -180,8 +193,7 @@ fn finish_number(st: State, code: u8) -> u32
     let n = bank::select(full, 13, 0);
     let n = bank::select(!ends, 14, n);
     let n = bank::select(at == phases::IDLE, 7, n);
-    let n = bank::select(st.control.held, 5, n);
-    bank::select(15 < code, 18, n)
+    bank::select(st.control.held, 5, n)
 }
 
 fn receipt(code: u8, moved: u32, sync: u8) -> u32
@@ -203,7 +215,7 @@ fn counted(c: Control) -> Control
 
 // The open transfer ends with a code.
 pub fn finish(st: State, store: &mut [u32], code: u8) -> Next
-    requires { ⌜ Open st (now store) ⌝ }
+    requires { ⌜ (Open st (now store)) × (phaseOk (st .phase) ≡ true) × (code ≤ 15) ⌝ }
     ensures { λ y. ⌜ ((t : Tables) → given y t (now (store .exit)) ≡ decided st t (now (store .entry)) (finish (view st t (now (store .entry))) code)) ⌝ }
 {
     let n = finish_number(st, code);

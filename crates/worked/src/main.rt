@@ -1,6 +1,6 @@
 // Runs 01's worked session, 004's examples of payload words, and address words with both values of the parity bit for
 // all 128 addresses, on the interface. Prints answers, one a line: all those of the session, then of each example those
-// that it is about.
+// that it is about. Every call is lent an empty output: there is no burst.
 ghost use Prim.Native.Nat.{_<_};
 use bank::Bank;
 use model::Call;
@@ -38,7 +38,8 @@ fn fresh() -> Board {
 // The board after a call whose answer is not printed.
 fn run(board: Board, call: Call) -> Board {
     let mut store = board.store;
-    let out = controller::step(board.bank, &mut store, call);
+    let mut none = [0u32; 0];
+    let out = controller::step(board.bank, &mut store, &mut none, call);
     let b = out.bank;
     Board {
         bank: b,
@@ -49,7 +50,8 @@ fn run(board: Board, call: Call) -> Board {
 // The board after a call whose answer is printed.
 fn say(board: Board, call: Call) -> Board {
     let mut store = board.store;
-    let out = controller::step(board.bank, &mut store, call);
+    let mut none = [0u32; 0];
+    let out = controller::step(board.bank, &mut store, &mut none, call);
     let text = print::line(out.answer);
     io::write_all(1, &text);
     let b = out.bank;

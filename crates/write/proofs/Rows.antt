@@ -1,17 +1,16 @@
--- A register write by its row, refused or served; and what writes need of numbers and lists.
-use Prim.Native.Nat.{ℕ, zero, suc, _/_, _%_, _<_, _≤_}
+-- A register write by its row, refused or served; and what writes need of numbers.
+use Prim.Native.Nat.{ℕ, _/_, _%_, _<_}
 use native.Mathlib.Omega.{arith}
-use native.Mathlib.Nat.{not-suc-le-zero, le-of-suc-le-suc}
 use mathlib.Core.Path.{_≡_, refl, ap, sym, _∙_}
 use mathlib.Core.Bool.{Bool, true, false}
-use mathlib.Core.List.{List, [], _∷_}
+use mathlib.Core.List.{List}
 use lib.Dec.{eqb, leb}
-use lib.ListN.{length, set}
 use borrow.Author.Tests.{leb-false, eqb-true, eqb-false}
 use Rattle.bank.specs.declared.State.{State}
 use Rattle.registers.specs.declared.Register.{Register}
 use Rattle.registers.specs.declared.Register.the-variants.{Enable}
-use Rattle.model.specs.View.{weigh, Tables}
+use Rattle.bank.specs.Bits.{weigh}
+use Rattle.model.specs.View.{Tables}
 use Rattle.model.specs.Decision.{effect}
 use Rattle.model.specs.Engine.{Step}
 use Rattle.model.specs.Rings.{Controller}
@@ -33,9 +32,9 @@ module _ (st : State) (t : Tables) (s : List ℕ) (r : Register) (v : ℕ) where
   unfolding writeAt
   served-row k e = served-by st t s (write (row r) (view st t s) v) k e
 
-  -- a push that is made where its number is 0: y n made is what code gives
-  pub pushed-row : (y : ℕ → Bool → Step Controller) (n : ℕ) → refusals (write (row r) (view st t s) v) ≡ true → n ≡ number (write (row r) (view st t s) v) → y 0 true ≡ served st t s (effect (write (row r) (view st t s) v)) → ((m : ℕ) → y m false ≡ given (refusedNext st m) t s) → y n (eqb n 0) ≡ writeAt st t s r v
-  pushed-row y n k e made dropped = go (eqb n 0) refl
+  -- a write that is made where its number is 0: y n made is what code gives
+  pub made-row : (y : ℕ → Bool → Step Controller) (n : ℕ) → refusals (write (row r) (view st t s) v) ≡ true → n ≡ number (write (row r) (view st t s) v) → y 0 true ≡ served st t s (effect (write (row r) (view st t s) v)) → ((m : ℕ) → y m false ≡ given (refusedNext st m) t s) → y n (eqb n 0) ≡ writeAt st t s r v
+  made-row y n k e made dropped = go (eqb n 0) refl
     where
       go : (b : Bool) → eqb n 0 ≡ b → y n b ≡ writeAt st t s r v
       go true h = let z = eqb-true n 0 h in ap (λ (m : ℕ). y m true) z ∙ made ∙ served-row k (sym e ∙ z)
@@ -60,9 +59,3 @@ enabled st t s v k e =
     let h : v / 1 % 2 ≡ v % 2 = omega arith in
     ap (λ (x : Bool). served st t s (enable (view st t s) x)) (sym (ap (λ (n : ℕ). eqb n 1) h ∙ e))
     ∙ served-row st t s Enable v refl refl
-
--- a place past the end
-pub set-past : (l : List ℕ) (i v : ℕ) → length l ≤ i → set l i v ≡ l
-set-past [] i v h = refl
-set-past (x ∷ xs) zero v h = absurd (not-suc-le-zero h)
-set-past (x ∷ xs) (suc i) v h = ap {B = List ℕ} (λ l. x ∷ l) (set-past xs i v (le-of-suc-le-suc h))

@@ -1,14 +1,17 @@
 // A write to a register, behind the two tests of bank and store: a layer, no interface. A table is lent only to the
-// functions that change it; the others promise their step for every table and store.
+// functions that change it; the others promise their step for every table and store. The output is lent to none: all
+// promise for every output.
 ghost use mathlib.Core.Path.{_≡_};
 ghost use mathlib.Core.Bool.{true, false, cond};
-ghost use Prim.Native.Nat.{ℕ};
+ghost use Prim.Native.Nat.{ℕ, _%_, _^_};
 ghost use mathlib.Core.List.{List};
 ghost use lib.ListN.{set};
 ghost use Rattle.bank.proofs.Laws.{Ready};
 ghost use Rattle.registers.specs.declared.Register.the-variants.{Scratch, Enable, IrqMask, IrqPending, CmdFifo, SdoFifo, Ops, IbiConfig, DevChar, OffloadCmd, OffloadSdo};
 ghost use Rattle.registers.specs.Map.{registerAt};
-ghost use Rattle.model.specs.View.{bit, bits, Tables};
+ghost use Rattle.bank.specs.Bits.{bit, bits, weigh};
+ghost use Rattle.bank.specs.Bursts.{bursting};
+ghost use Rattle.model.specs.View.{Tables};
 ghost use Rattle.model.specs.Registers.{acknowledged, enable};
 ghost use Rattle.answer.specs.Given.{tables, view, given, doneNext, served, Open};
 ghost use Rattle.write.specs.At.{writeAt, pushNumber};
@@ -18,25 +21,26 @@ use bank::Phase;
 use bank::Queues;
 use bank::Regs;
 use bank::State;
+use bank::bursts;
 use registers::Register;
 
-// A write that changes no more than the registers.
-fn put_regs(st: State, g: Regs) -> Next
-    ensures { λ y. ⌜ y ≡ doneNext (st .queues) g (st .control) (st .phase) 0 0 ⌝ }
+// A write that changes no more than the registers and a table, with its number.
+fn put_regs(st: State, g: Regs, n: u32) -> Next
+    ensures { λ y. ⌜ y ≡ doneNext (st .queues) g (st .control) (st .phase) 0 n ⌝ }
 {
     let q = st.queues;
     let c = st.control;
     let p = st.phase;
-    answer::done(q, g, c, p, 0, 0)
+    answer::done(q, g, c, p, 0, n)
 }
 
-// SCRATCH, IRQ_MASK, OPS and IBI_CONFIG keep the bits that the map names for them.
+// SCRATCH, IRQ_MASK, IBI_CONFIG and OPS keep the bits that the map names for them.
 fn write_scratch(st: State, v: u32) -> Next
     ensures { λ y. ⌜ ((t : Tables) (s : List ℕ) → given y t s ≡ writeAt st t s Scratch v) ⌝ }
 {
     let mut g = st.regs;
     g.scratch = v;
-    put_regs(st, g)
+    put_regs(st, g, 0)
 }
 
 fn write_mask(st: State, v: u32) -> Next
@@ -44,15 +48,7 @@ fn write_mask(st: State, v: u32) -> Next
 {
     let mut g = st.regs;
     g.mask = (v % 256) as u8;
-    put_regs(st, g)
-}
-
-fn write_ops(st: State, v: u32) -> Next
-    ensures { λ y. ⌜ ((t : Tables) (s : List ℕ) → given y t s ≡ writeAt st t s Ops v) ⌝ }
-{
-    let mut g = st.regs;
-    g.ops = (v % 128) as u8;
-    put_regs(st, g)
+    put_regs(st, g, 0)
 }
 
 fn write_config(st: State, v: u32) -> Next
@@ -60,7 +56,31 @@ fn write_config(st: State, v: u32) -> Next
 {
     let mut g = st.regs;
     g.config = (v % 4) as u8;
-    put_regs(st, g)
+    put_regs(st, g, 0)
+}
+
+// The number of a write to OPS or an offload memory. An open burst runs by these, so the write is then dropped whole.
+fn burst_number(c: Control) -> u32
+    ensures { λ n. ⌜ n ≡ weigh (bursting c) 6 ⌝ }
+{
+    bank::select(bursts::is_bursting(c), 6, 0)
+}
+
+// OPS after a write, where it comes; else as it was.
+fn ops_if(ops: u8, comes: bool, v: u32) -> u8
+    ensures { λ r. ⌜ r ≡ cond comes (v % 2 ^ 7) ops ⌝ }
+{
+    let new = (v % 128) as u8;
+    if comes { new } else { ops }
+}
+
+fn write_ops(st: State, v: u32) -> Next
+    ensures { λ y. ⌜ ((t : Tables) (s : List ℕ) → given y t s ≡ writeAt st t s Ops v) ⌝ }
+{
+    let n = burst_number(st.control);
+    let mut g = st.regs;
+    g.ops = ops_if(st.regs.ops, n == 0, v);
+    put_regs(st, g, n)
 }
 
 // A 1 clears the pending bit at its place.
@@ -169,12 +189,12 @@ fn put_flags(flags: &mut [u8; 128], v: u32)
 }
 
 fn write_device(st: State, flags: &mut [u8; 128], v: u32) -> Next
-    ensures { λ y. ⌜ ((c p s : List ℕ) → given y (tables (now (flags .exit)) c p) s ≡ writeAt st (tables (now (flags .entry)) c p) s DevChar v) ⌝ }
+    ensures { λ y. ⌜ ((c p o s : List ℕ) → given y (tables (now (flags .exit)) c p o) s ≡ writeAt st (tables (now (flags .entry)) c p o) s DevChar v) ⌝ }
 {
     put_flags(flags, v);
     let mut g = st.regs;
     g.selected = (v / 512 % 128) as u8;
-    put_regs(st, g)
+    put_regs(st, g, 0)
 }
 
 // One word of an offload memory. A place past the end stores nothing, so no caller has to bound it.
@@ -187,20 +207,31 @@ fn put_word(memory: &mut [u32], i: u32, v: u32)
     }
 }
 
-fn write_offload_cmd(st: State, commands: &mut [u32; 16], i: u32, v: u32) -> Next
-    ensures { λ y. ⌜ ((f p s : List ℕ) → given y (tables f (now (commands .exit)) p) s ≡ writeAt st (tables f (now (commands .entry)) p) s (OffloadCmd i) v) ⌝ }
+// The same where it comes; else the memory stays.
+fn put_word_if(memory: &mut [u32], i: u32, comes: bool, v: u32)
+    ensures { λ _. ⌜ now (memory .exit) ≡ cond comes (set (now (memory .entry)) i v) (now (memory .entry)) ⌝ }
 {
-    put_word(commands, i, v);
+    if comes {
+        put_word(memory, i, v);
+    }
+}
+
+fn write_offload_cmd(st: State, commands: &mut [u32; 16], i: u32, v: u32) -> Next
+    ensures { λ y. ⌜ ((f p o s : List ℕ) → given y (tables f (now (commands .exit)) p o) s ≡ writeAt st (tables f (now (commands .entry)) p o) s (OffloadCmd i) v) ⌝ }
+{
+    let n = burst_number(st.control);
+    put_word_if(commands, i, n == 0, v);
     let g = st.regs;
-    put_regs(st, g)
+    put_regs(st, g, n)
 }
 
 fn write_offload_sdo(st: State, payloads: &mut [u32; 16], i: u32, v: u32) -> Next
-    ensures { λ y. ⌜ ((f c s : List ℕ) → given y (tables f c (now (payloads .exit))) s ≡ writeAt st (tables f c (now (payloads .entry))) s (OffloadSdo i) v) ⌝ }
+    ensures { λ y. ⌜ ((f c o s : List ℕ) → given y (tables f c (now (payloads .exit)) o) s ≡ writeAt st (tables f c (now (payloads .entry)) o) s (OffloadSdo i) v) ⌝ }
 {
-    put_word(payloads, i, v);
+    let n = burst_number(st.control);
+    put_word_if(payloads, i, n == 0, v);
     let g = st.regs;
-    put_regs(st, g)
+    put_regs(st, g, n)
 }
 
 // A write at an offset.
@@ -214,7 +245,7 @@ pub fn write(
     v: u32,
 ) -> Next
     requires { ⌜ Open st (now store) ⌝ }
-    ensures { λ y. ⌜ given y (tables (now (flags .exit)) (now (commands .exit)) (now (payloads .exit))) (now (store .exit)) ≡ writeAt st (tables (now (flags .entry)) (now (commands .entry)) (now (payloads .entry))) (now (store .entry)) (registerAt offset) v ⌝ }
+    ensures { λ y. ⌜ ((o : List ℕ) → given y (tables (now (flags .exit)) (now (commands .exit)) (now (payloads .exit)) o) (now (store .exit)) ≡ writeAt st (tables (now (flags .entry)) (now (commands .entry)) (now (payloads .entry)) o) (now (store .entry)) (registerAt offset) v) ⌝ }
 {
     let r = registers::register_at(offset);
     match r {

@@ -2,7 +2,6 @@
 
 use super::clause::{Clause, Findings};
 use super::transfer::Transfer;
-use super::CAPACITY;
 use std::collections::VecDeque;
 
 /// 01: "Receipt: 23:20 error, 19:8 length, 7:0 sync". Bits 31:24 are not part of
@@ -31,14 +30,16 @@ pub struct Receipts {
     read: u64,
     /// Made and not read. Unknown after a read that was not the next receipt.
     queued: Option<VecDeque<Receipt>>,
+    capacity: usize,
 }
 
 impl Receipts {
-    pub fn new() -> Receipts {
+    pub fn new(capacity: usize) -> Receipts {
         Receipts {
             made: 0,
             read: 0,
             queued: Some(VecDeque::new()),
+            capacity,
         }
     }
 
@@ -80,8 +81,9 @@ impl Receipts {
         };
         queued.push_back(receipt);
         let level = queued.len();
-        findings.judge(Clause::ReceiptsQueued, level <= CAPACITY, || {
-            format!("expected at most {CAPACITY} receipts queued, saw receipt {level} queued")
+        let capacity = self.capacity;
+        findings.judge(Clause::ReceiptsQueued, level <= capacity, || {
+            format!("expected at most {capacity} receipts queued, saw receipt {level} queued")
         });
     }
 

@@ -10,7 +10,7 @@ use super::receipt::{Receipt, Receipts};
 use super::room::RoomReads;
 use super::transfer::Transfers;
 use super::waiting::Commands;
-use crate::engine::{Answer, Call};
+use crate::engine::{Answer, Call, SetupNumbers, SESSION_NUMBERS};
 
 // 01, Register map.
 const ENABLE: u16 = 0x040;
@@ -37,12 +37,13 @@ struct Stretch {
 }
 
 impl Stretch {
-    fn new() -> Stretch {
+    /// Capacities in the order CMD CMDR SDO SDI IBI.
+    fn new(capacities: [u32; 5]) -> Stretch {
         Stretch {
             room_reads: RoomReads::new(),
-            commands: Commands::new(),
+            commands: Commands::new(capacities[0] as usize),
             transfers: Transfers::default(),
-            receipts: Receipts::new(),
+            receipts: Receipts::new(capacities[1] as usize),
         }
     }
 
@@ -60,7 +61,9 @@ impl Stretch {
                 self.event(Kind::Entdaa, 0, answer, findings);
             }
             Call::Finish { code } => self.finish(code, answer, findings),
-            Call::InterruptRequest { .. } => self.transfers.refusal(answer, findings),
+            Call::InterruptRequest { .. } | Call::Trigger => {
+                self.transfers.refusal(answer, findings);
+            }
         }
     }
 
@@ -108,25 +111,46 @@ impl Stretch {
     }
 
     fn finish(&mut self, code: u8, answer: Answer, findings: &mut Findings) {
-        if answer.number == DONE {
+        if answer.number != DONE {
+            self.transfers.refusal(answer, findings);
+        } else if !self.transfers.finish_in_burst() {
             let transfer = self.transfers.finish();
             self.receipts
                 .finish(code, Receipt(answer.value), transfer, findings);
-        } else {
-            self.transfers.refusal(answer, findings);
         }
     }
 }
 
 /// The count over a whole script, from a fresh bank.
-#[derive(Debug, Default)]
+#[derive(Debug)]
 pub struct Count {
+    capacities: [u32; 5],
+    /// OPS bits 4:1, which a reset keeps.
+    offload_length: u32,
     /// Absent from set-up or a reset until the release.
     stretch: Option<Stretch>,
     findings: Findings,
 }
 
 impl Count {
+    /// From the session's bank.
+    pub fn new() -> Count {
+        Count {
+            capacities: SESSION_NUMBERS.capacities,
+            offload_length: 0,
+            stretch: None,
+            findings: Findings::default(),
+        }
+    }
+
+    /// A set-up ends the list and gives the next one its fresh bank. After 23 no
+    /// release is answered 0.
+    pub fn set_up(&mut self, numbers: &SetupNumbers) {
+        self.capacities = numbers.capacities;
+        self.offload_length = 0;
+        self.stretch = None;
+    }
+
     /// `line` is the script's line of the call.
     pub fn judge_call(&mut self, line: u64, call: &Call, answer: Answer) {
         self.findings.set_line(line);
@@ -135,6 +159,14 @@ impl Count {
                 offset: ENABLE,
                 value,
             } if answer.number == DONE => self.enable(value),
+            Call::Write { offset: OPS, value } if answer.number == DONE => {
+                self.offload_length = value >> 1 & 0xf;
+            }
+            Call::Trigger if answer.number == DONE => {
+                if let Some(stretch) = &mut self.stretch {
+                    stretch.transfers.trigger(self.offload_length);
+                }
+            }
             // 01: "Only calls after the list's last release count."
             _ => {
                 if let Some(stretch) = &mut self.stretch {
@@ -150,7 +182,7 @@ impl Count {
         if value & 1 == 1 {
             self.stretch = None;
         } else if self.stretch.is_none() {
-            self.stretch = Some(Stretch::new());
+            self.stretch = Some(Stretch::new(self.capacities));
         }
     }
 

@@ -645,10 +645,94 @@ fn a_script_with_no_release_is_kept() {
     assert_broken(&session, &[]);
 }
 
+// Bursts.
+
+/// A direct write, a burst of a write and a read, a direct read, a reset in a burst;
+/// then the same on a bank with other capacities.
+fn session_with_bursts() -> Session {
+    let part = [
+        RELEASE,
+        "W 0180 00001102",
+        "W 02c0 00000110",
+        "W 02c4 00000211",
+        "W 0300 a5000000",
+        "W 00dc 5a000000",
+        "W 00d4 00000110",
+        "S",
+        "T",
+        "F 0",
+        "W 00d4 00000111",
+        "W 0100 00000005",
+        "G",
+        "R 0100",
+        "S",
+        "W 0100 00000000",
+        "T",
+        "F 0",
+        "G",
+        "X 01",
+        "F 0",
+        "F 0",
+        "P 0",
+        "W 0100 00000004",
+        "S",
+        "X 02",
+        "F 0",
+        RECEIPT,
+        RECEIPT,
+        RECEIPT,
+        "W 0100 00000005",
+        "G",
+        "T",
+        RESET,
+    ];
+    let lines = ["O 1"]
+        .iter()
+        .chain(&part)
+        .chain(&["B 2 2 1 2 1 0 0 0 0 0 0", "O 2"])
+        .chain(&part)
+        .map(|line| line.to_string());
+    Session::run_in(Mode::Test, &lines.collect::<Vec<_>>())
+}
+
+#[test]
+fn bursts_count_for_none() {
+    let session = session_with_bursts();
+    assert_eq!(session.count("G", " 00"), 4);
+    assert_eq!(session.count("G", " 06"), 2);
+    assert_eq!(session.count(RECEIPT, " 00"), 4);
+    assert_broken(&session, &[]);
+}
+
+#[test]
+fn a_finish_past_the_burst() {
+    let mut session = session_with_bursts();
+    let last = session.find(0, "F 0", " 07");
+    session.set(last, 0, 0);
+    // Its value then counts as a receipt, so that the next sync and read are wrong too.
+    assert_eq!(session.broken()[0], (Clause::OneReceiptEach, last));
+}
+
+#[test]
+fn a_receipt_of_a_burst_transfer() {
+    let mut session = session_with_bursts();
+    let first = session.find(0, RECEIPT, " 00");
+    session.insert(first, RECEIPT, 0x0000_0100, 0);
+    assert_broken(&session, &[(Clause::ReceiptsRead, first + 1)]);
+}
+
+#[test]
+fn a_command_started_by_the_trigger() {
+    let mut session = session_with_bursts();
+    let start = session.find(session.find(0, "P 0", " 00"), "S", " 00");
+    session.set(start, 0, 9);
+    assert_eq!(session.broken()[0], (Clause::RestWaits, start));
+}
+
 // Input and output.
 
 fn unusable(script: &str, answers: &str) -> String {
-    judge(script.as_bytes(), answers.as_bytes())
+    judge(script.as_bytes(), answers.as_bytes(), Mode::Session)
         .unwrap_err()
         .to_string()
 }
@@ -695,8 +779,10 @@ fn a_malformed_answer_is_unusable() {
 
 #[test]
 fn answers_of_the_last_line_without_a_newline() {
-    assert!(judge(&b"S"[..], &b"00000000 05"[..]).unwrap().all_kept());
-    assert!(judge(&b""[..], &b""[..]).unwrap().all_kept());
+    assert!(judge(&b"S"[..], &b"00000000 05"[..], Mode::Session)
+        .unwrap()
+        .all_kept());
+    assert!(judge(&b""[..], &b""[..], Mode::Session).unwrap().all_kept());
 }
 
 /// 01's worked session, whole and with one fault.
@@ -709,7 +795,7 @@ fn the_report_has_a_line_for_each_clause() {
         let script = session.script();
         let answers = session.answers();
         let mut output = Vec::new();
-        let findings = judge(script.as_bytes(), answers.as_bytes()).unwrap();
+        let findings = judge(script.as_bytes(), answers.as_bytes(), Mode::Session).unwrap();
         findings.print(&mut output).unwrap();
         String::from_utf8(output).unwrap()
     };

@@ -22,6 +22,9 @@ pub struct Transfer {
 pub struct Transfers {
     open: Option<Transfer>,
     started: u64,
+    /// Transfers of the open burst that have not finished. 02: "demand 3 speaks of
+    /// direct commands only": their events count for none.
+    burst_left: u32,
 }
 
 impl Transfers {
@@ -36,9 +39,22 @@ impl Transfers {
         self.open = Some(Transfer { command, moved: 0 });
     }
 
+    /// A trigger answered 0; its burst has this many commands.
+    pub fn trigger(&mut self, commands: u32) {
+        self.burst_left = commands;
+    }
+
+    /// With no direct command open, an event is the burst's.
+    fn is_in_burst(&self) -> bool {
+        self.open.is_none() && self.burst_left > 0
+    }
+
     /// An event answered 0 that only a command of this kind has; `bytes` is what it
     /// moves.
     pub fn event(&mut self, kind: Kind, bytes: u64, findings: &mut Findings) {
+        if self.is_in_burst() {
+            return;
+        }
         let Some(transfer) = &mut self.open else {
             findings.judge(Clause::EventsOfItsKind, false, || {
                 format!("expected a refusal, {} is not open, saw 00", kind.name())
@@ -54,6 +70,15 @@ impl Transfers {
                 format!("expected a refusal for {first:08x}, {open_kind}, saw 00")
             });
         }
+    }
+
+    /// A finish answered 0 for a transfer of the burst; false if it is not one.
+    pub fn finish_in_burst(&mut self) -> bool {
+        let in_burst = self.is_in_burst();
+        if in_burst {
+            self.burst_left -= 1;
+        }
+        in_burst
     }
 
     /// 01: "It is open until the next finish answered 0, which finishes it."
@@ -79,7 +104,11 @@ impl Transfers {
         }
     }
 
+    /// The open transfer may be the burst's.
     fn said_open(&self, seen: &str, findings: &mut Findings) {
+        if self.is_in_burst() {
+            return;
+        }
         findings.judge(Clause::OneOpen, self.open.is_some(), || {
             format!("expected no command open, saw {seen}")
         });

@@ -2,7 +2,6 @@
 
 use super::clause::{Clause, Findings};
 use super::command::{Command, Kind, WaitingWords};
-use super::CAPACITY;
 
 /// The commands since the release, up to the first start that is not the next
 /// command's: from there the n-th start is no longer the n-th command's, and what
@@ -11,13 +10,15 @@ use super::CAPACITY;
 pub struct Commands {
     waiting: Option<WaitingWords>,
     started: u64,
+    capacity: usize,
 }
 
 impl Commands {
-    pub fn new() -> Commands {
+    pub fn new(capacity: usize) -> Commands {
         Commands {
             waiting: Some(WaitingWords::default()),
             started: 0,
+            capacity,
         }
     }
 
@@ -29,8 +30,9 @@ impl Commands {
         };
         waiting.push(word);
         let level = waiting.level();
-        findings.judge(Clause::RestWaits, level <= CAPACITY, || {
-            format!("expected at most {CAPACITY} words waiting, saw word {level} taken")
+        let capacity = self.capacity;
+        findings.judge(Clause::RestWaits, level <= capacity, || {
+            format!("expected at most {capacity} words waiting, saw word {level} taken")
         });
     }
 
@@ -40,9 +42,10 @@ impl Commands {
             return;
         };
         let level = waiting.level();
-        let kept = level as u64 + u64::from(room) == CAPACITY as u64;
+        let capacity = self.capacity;
+        let kept = level as u64 + u64::from(room) == capacity as u64;
         findings.judge(Clause::RestWaits, kept, || {
-            format!("expected room {CAPACITY} less {level} words waiting, saw room {room}")
+            format!("expected room {capacity} less {level} words waiting, saw room {room}")
         });
     }
 

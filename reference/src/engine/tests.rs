@@ -1,6 +1,8 @@
 //! Tests of the engine, rule by rule, and a walk of random calls against the
 //! count of demand 3.
 
+mod bursts;
+
 use super::*;
 
 fn fresh() -> Bank {
@@ -30,7 +32,7 @@ fn started(bank: &mut Bank, words: &[u32]) {
     for word in words {
         assert_eq!(bank.write(0xd4, *word), done(0));
     }
-    assert_eq!(bank.start(), done(words[0]));
+    assert_eq!(bank.start(&[]), done(words[0]));
 }
 
 const PRIVATE_WRITE_2: u32 = 0x0000_0210;
@@ -209,15 +211,15 @@ fn held_in_reset() {
     let mut bank = fresh();
     assert_eq!(bank.write(0xd4, 0), refuse(5));
     assert_eq!(bank.write(0xdc, 0), refuse(5));
-    assert_eq!(bank.start(), refuse(5));
-    assert_eq!(bank.send(), refuse(5));
-    assert_eq!(bank.receive(0), refuse(5));
-    assert_eq!(bank.finish(15), refuse(5));
-    assert_eq!(bank.finish(16), refuse(18));
-    assert_eq!(bank.interrupt_request(127, 0), refuse(5));
-    assert_eq!(bank.interrupt_request(128, 0), refuse(18));
-    assert_eq!(bank.address_request(0, 0), refuse(5));
-    assert_eq!(bank.address_take(), refuse(5));
+    assert_eq!(bank.start(&[]), refuse(5));
+    assert_eq!(bank.send(&[]), refuse(5));
+    assert_eq!(bank.receive(0, &[]), refuse(5));
+    assert_eq!(bank.finish(15, &mut []), refuse(5));
+    assert_eq!(bank.finish(16, &mut []), refuse(18));
+    assert_eq!(bank.interrupt_request(127, 0, &[]), refuse(5));
+    assert_eq!(bank.interrupt_request(128, 0, &[]), refuse(18));
+    assert_eq!(bank.address_request(0, 0, &[]), refuse(5));
+    assert_eq!(bank.address_take(&[]), refuse(5));
     assert_eq!(bank, fresh());
 }
 
@@ -235,11 +237,11 @@ fn reset_keeps_the_other_registers() {
     bank.write(0x300, 2);
     bank.write(0xdc, 3);
     started(&mut bank, &[0x10]);
-    assert_eq!(bank.finish(0), done(0));
-    bank.interrupt_request(9, 9);
+    assert_eq!(bank.finish(0, &mut []), done(0));
+    bank.interrupt_request(9, 9, &[]);
     started(&mut bank, &[PRIVATE_READ_5]);
     bank.write(0xd4, 0x10);
-    bank.receive(1);
+    bank.receive(1, &[]);
     assert_eq!(value_at(&mut bank, 0x88), 0x60);
     assert_eq!(bank.write(0x40, 1), done(0));
 
@@ -260,8 +262,8 @@ fn reset_keeps_the_other_registers() {
 
     assert_eq!(bank.write(0x40, 0), done(0));
     started(&mut bank, &[0x10]);
-    assert_eq!(bank.finish(6), done(0x0060_0000));
-    assert_eq!(bank.interrupt_request(9, 9), done(0x0012_0900));
+    assert_eq!(bank.finish(6, &mut []), done(0x0060_0000));
+    assert_eq!(bank.interrupt_request(9, 9, &[]), done(0x0012_0900));
 }
 
 /// 01, ENABLE: "once released it changes nothing."
@@ -269,7 +271,7 @@ fn reset_keeps_the_other_registers() {
 fn release_twice() {
     let mut bank = with_device();
     started(&mut bank, &[PRIVATE_READ_5]);
-    bank.receive(1);
+    bank.receive(1, &[]);
     let before = bank.clone();
     assert_eq!(bank.write(0x40, 0), done(0));
     assert_eq!(bank, before);
@@ -297,15 +299,15 @@ fn almost_full() {
     bank.write(0x180, 0x1106);
     for level in 1..=4 {
         started(&mut bank, &[0x111]);
-        bank.receive(0);
-        bank.finish(0);
-        bank.interrupt_request(8, 0);
+        bank.receive(0, &[]);
+        bank.finish(0, &mut []);
+        bank.interrupt_request(8, 0, &[]);
         let expected = if level > 3 { 0x1a } else { 0 };
         assert_eq!(value_at(&mut bank, 0x88) & 0x1a, expected);
     }
     started(&mut bank, &[0x111]);
-    bank.receive(0);
-    assert_eq!(bank.finish(0), refuse(13));
+    bank.receive(0, &[]);
+    assert_eq!(bank.finish(0, &mut []), refuse(13));
     assert_eq!(value_at(&mut bank, 0x100), 0);
 }
 
@@ -315,7 +317,7 @@ fn almost_full() {
 fn pending_and_mask() {
     let mut bank = with_device();
     started(&mut bank, &[0x10]);
-    bank.finish(0);
+    bank.finish(0, &mut []);
     assert_eq!(value_at(&mut bank, 0x88), 0x25);
     assert_eq!(value_at(&mut bank, 0x84), 0);
     bank.write(0x80, 0x24);
@@ -336,8 +338,8 @@ fn emptying_reads_clear_pending() {
     bank.write(0x180, 0x1106);
     for _ in 0..2 {
         started(&mut bank, &[0x10]);
-        bank.finish(0);
-        bank.interrupt_request(8, 0xff);
+        bank.finish(0, &mut []);
+        bank.interrupt_request(8, 0xff, &[]);
     }
     assert_eq!(value_at(&mut bank, 0x88), 0x65);
     assert_eq!(bank.read(0xd8), done(0));
@@ -356,20 +358,20 @@ fn emptying_reads_clear_pending() {
 #[test]
 fn start_order() {
     let mut bank = with_device();
-    assert_eq!(bank.start(), refuse(9));
+    assert_eq!(bank.start(&[]), refuse(9));
     bank.write(0x100, 1);
-    assert_eq!(bank.start(), refuse(8));
+    assert_eq!(bank.start(&[]), refuse(8));
     bank.write(0x100, 0);
     started(&mut bank, &[0x10]);
     bank.write(0x100, 1);
-    assert_eq!(bank.start(), refuse(6));
-    assert_eq!(bank.finish(0), done(0));
+    assert_eq!(bank.start(&[]), refuse(6));
+    assert_eq!(bank.finish(0, &mut []), done(0));
     bank.write(0x100, 0x7e);
     bank.write(0xdc, 0);
     bank.write(0xd4, CCC);
-    assert_eq!(bank.start(), refuse(9));
+    assert_eq!(bank.start(&[]), refuse(9));
     bank.write(0xd4, 7);
-    assert_eq!(bank.start(), refuse(15));
+    assert_eq!(bank.start(&[]), refuse(15));
     assert_eq!(value_at(&mut bank, 0xc0), 2);
 }
 
@@ -390,21 +392,21 @@ fn attached_is_noted_at_start() {
     let mut bank = with_device();
     started(&mut bank, &[PRIVATE_READ_5]);
     bank.write(0x180, 0x1100);
-    assert_eq!(bank.receive(1), done(0));
-    assert_eq!(bank.finish(8), refuse(14));
-    assert_eq!(bank.finish(0), done(0x100));
+    assert_eq!(bank.receive(1, &[]), done(0));
+    assert_eq!(bank.finish(8, &mut []), refuse(14));
+    assert_eq!(bank.finish(0, &mut []), done(0x100));
 
     started(&mut bank, &[PRIVATE_READ_5]);
     bank.write(0x180, 0x1102);
-    assert_eq!(bank.receive(1), refuse(20));
-    assert_eq!(bank.send(), refuse(20));
-    assert_eq!(bank.finish(0), refuse(14));
-    assert_eq!(bank.finish(8), done(0x0080_0001));
+    assert_eq!(bank.receive(1, &[]), refuse(20));
+    assert_eq!(bank.send(&[]), refuse(20));
+    assert_eq!(bank.finish(0, &mut []), refuse(14));
+    assert_eq!(bank.finish(8, &mut []), done(0x0080_0001));
 
     for (second, number) in [(0x80, 20), (0x87, 20), (0x00, 0), (0x06, 0), (0x107, 10)] {
         let mut bank = released();
         started(&mut bank, &[CCC | 0x111, second]);
-        assert_eq!(bank.receive(1).number, number, "{second:#x}");
+        assert_eq!(bank.receive(1, &[]).number, number, "{second:#x}");
     }
 }
 
@@ -416,24 +418,24 @@ fn attached_is_noted_at_start() {
 fn send_takes_words() {
     let mut bank = with_device();
     started(&mut bank, &[0x510]);
-    assert_eq!(bank.send(), refuse(12));
+    assert_eq!(bank.send(&[]), refuse(12));
     bank.write(0xdc, 0x0102_0304);
     assert_eq!(value_at(&mut bank, 0xc8), 3);
     for byte in 1..=4 {
-        assert_eq!(bank.send(), done(byte));
+        assert_eq!(bank.send(&[]), done(byte));
         assert_eq!(value_at(&mut bank, 0xc8), 4);
     }
-    assert_eq!(bank.send(), refuse(12));
+    assert_eq!(bank.send(&[]), refuse(12));
     for code in 0..=15 {
-        assert_eq!(bank.finish(code), refuse(14));
+        assert_eq!(bank.finish(code, &mut []), refuse(14));
     }
     bank.write(0xdc, 0x0506_0708);
     bank.write(0xdc, 0x090a_0b0c);
-    assert_eq!(bank.send(), done(5));
-    assert_eq!(bank.send(), refuse(11));
-    assert_eq!(bank.finish(0), done(0x500));
+    assert_eq!(bank.send(&[]), done(5));
+    assert_eq!(bank.send(&[]), refuse(11));
+    assert_eq!(bank.finish(0, &mut []), done(0x500));
     started(&mut bank, &[0x110]);
-    assert_eq!(bank.send(), done(9));
+    assert_eq!(bank.send(&[]), done(9));
 }
 
 /// 01: "After a write that was not acknowledged its data words stay in SDO."
@@ -442,7 +444,7 @@ fn not_acknowledged_write_keeps_sdo() {
     let mut bank = with_device();
     bank.write(0xdc, 0x0102_0304);
     started(&mut bank, &[PRIVATE_WRITE_2]);
-    assert_eq!(bank.finish(6), done(0x0060_0000));
+    assert_eq!(bank.finish(6, &mut []), done(0x0060_0000));
     assert_eq!(value_at(&mut bank, 0xc8), 3);
 }
 
@@ -452,19 +454,19 @@ fn receive_without_room() {
     let mut bank = with_device();
     started(&mut bank, &[0xf_ff11]);
     for byte in 0..16 {
-        assert_eq!(bank.receive(byte), done(0));
+        assert_eq!(bank.receive(byte, &[]), done(0));
     }
     for byte in 16..19 {
-        assert_eq!(bank.receive(byte), done(0));
+        assert_eq!(bank.receive(byte, &[]), done(0));
     }
     let before = bank.clone();
-    assert_eq!(bank.receive(19), refuse(13));
-    assert_eq!(bank.finish(0), refuse(13));
+    assert_eq!(bank.receive(19, &[]), refuse(13));
+    assert_eq!(bank.finish(0, &mut []), refuse(13));
     assert_eq!(bank, before);
     assert_eq!(bank.read(0xe0), done(0x0001_0203));
-    assert_eq!(bank.receive(19), done(0));
+    assert_eq!(bank.receive(19, &[]), done(0));
     assert_eq!(value_at(&mut bank, 0xcc), 4);
-    assert_eq!(bank.finish(0), done(0x1400));
+    assert_eq!(bank.finish(0, &mut []), done(0x1400));
 }
 
 /// 01, number 10: "a read or ENTDAA", "a write or ENTDAA"; tested before 11.
@@ -472,25 +474,29 @@ fn receive_without_room() {
 fn wrong_direction() {
     let mut bank = with_device();
     started(&mut bank, &[0x11]);
-    assert_eq!(bank.send(), refuse(10));
-    assert_eq!(bank.receive(0), refuse(11));
-    assert_eq!(bank.finish(0), done(0));
+    assert_eq!(bank.send(&[]), refuse(10));
+    assert_eq!(bank.receive(0, &[]), refuse(11));
+    assert_eq!(bank.finish(0, &mut []), done(0));
     started(&mut bank, &[0x10]);
-    assert_eq!(bank.receive(0), refuse(10));
-    assert_eq!(bank.send(), refuse(11));
-    assert_eq!(bank.finish(0), done(1));
+    assert_eq!(bank.receive(0, &[]), refuse(10));
+    assert_eq!(bank.send(&[]), refuse(11));
+    assert_eq!(bank.finish(0, &mut []), done(1));
     for first in [CCC | 0x500, CCC | 0x501] {
         let mut bank = released();
         started(&mut bank, &[first, 7]);
-        assert_eq!(bank.send(), refuse(10));
-        assert_eq!(bank.receive(0), refuse(10));
+        assert_eq!(bank.send(&[]), refuse(10));
+        assert_eq!(bank.receive(0, &[]), refuse(10));
     }
     let mut bank = released();
-    for answer in [bank.send(), bank.receive(0), bank.finish(0)] {
+    for answer in [
+        bank.send(&[]),
+        bank.receive(0, &[]),
+        bank.finish(0, &mut []),
+    ] {
         assert_eq!(answer, refuse(7));
     }
-    assert_eq!(bank.address_request(0, 0), refuse(7));
-    assert_eq!(bank.address_take(), refuse(7));
+    assert_eq!(bank.address_request(0, 0, &[]), refuse(7));
+    assert_eq!(bank.address_take(&[]), refuse(7));
 }
 
 // Endings.
@@ -505,14 +511,14 @@ fn endings(words: &[u32], attached: bool, moved: usize) -> Vec<u8> {
     started(&mut bank, words);
     for _ in 0..moved {
         let answer = if words[0] & 1 == 1 {
-            bank.receive(1)
+            bank.receive(1, &[])
         } else {
-            bank.send()
+            bank.send(&[])
         };
         assert_eq!(answer.number, 0);
     }
     (0..=15)
-        .filter(|code| bank.clone().finish(*code).number == 0)
+        .filter(|code| bank.clone().finish(*code, &mut []).number == 0)
         .collect()
 }
 
@@ -573,17 +579,17 @@ fn finish_without_room() {
     let mut bank = with_device();
     for sync in 0..4 {
         started(&mut bank, &[0x10]);
-        assert_eq!(bank.finish(0), done(sync));
+        assert_eq!(bank.finish(0, &mut []), done(sync));
     }
     started(&mut bank, &[PRIVATE_READ_5]);
-    bank.receive(7);
+    bank.receive(7, &[]);
     let before = bank.clone();
-    assert_eq!(bank.finish(0), refuse(13));
-    assert_eq!(bank.finish(1), refuse(14));
-    assert_eq!(bank.finish(16), refuse(18));
+    assert_eq!(bank.finish(0, &mut []), refuse(13));
+    assert_eq!(bank.finish(1, &mut []), refuse(14));
+    assert_eq!(bank.finish(16, &mut []), refuse(18));
     assert_eq!(bank, before);
     assert_eq!(bank.read(0xd8), done(0));
-    assert_eq!(bank.finish(0), done(0x104));
+    assert_eq!(bank.finish(0, &mut []), done(0x104));
     assert_eq!(bank.read(0xe0), done(0x0700_0000));
 }
 
@@ -595,27 +601,30 @@ fn finish_without_room() {
 fn interrupt_order() {
     let mut bank = with_device();
     started(&mut bank, &[0x10]);
-    assert_eq!(bank.interrupt_request(128, 0), refuse(18));
-    assert_eq!(bank.interrupt_request(8, 0), refuse(6));
-    bank.finish(0);
-    assert_eq!(bank.interrupt_request(8, 0), refuse(16));
+    assert_eq!(bank.interrupt_request(128, 0, &[]), refuse(18));
+    assert_eq!(bank.interrupt_request(8, 0, &[]), refuse(6));
+    bank.finish(0, &mut []);
+    assert_eq!(bank.interrupt_request(8, 0, &[]), refuse(16));
     bank.write(0x140, 1);
-    assert_eq!(bank.interrupt_request(8, 0), refuse(16));
+    assert_eq!(bank.interrupt_request(8, 0, &[]), refuse(16));
     bank.write(0x140, 2);
     bank.write(0x180, 0x1106);
-    assert_eq!(bank.interrupt_request(8, 0), refuse(17));
+    assert_eq!(bank.interrupt_request(8, 0, &[]), refuse(17));
     bank.write(0x140, 3);
     bank.write(0x180, 0x1104);
-    assert_eq!(bank.interrupt_request(8, 0), refuse(17));
+    assert_eq!(bank.interrupt_request(8, 0, &[]), refuse(17));
     bank.write(0x180, 0x110a);
-    assert_eq!(bank.interrupt_request(8, 0), refuse(17));
+    assert_eq!(bank.interrupt_request(8, 0, &[]), refuse(17));
     bank.write(0x180, 0x1106);
     for sync in 0..4 {
-        assert_eq!(bank.interrupt_request(8, 0xff), done(0x0010_0000 | sync));
+        assert_eq!(
+            bank.interrupt_request(8, 0xff, &[]),
+            done(0x0010_0000 | sync)
+        );
     }
-    assert_eq!(bank.interrupt_request(8, 0xff), refuse(13));
+    assert_eq!(bank.interrupt_request(8, 0xff, &[]), refuse(13));
     assert_eq!(bank.read(0xe4), done(0x0010_0000));
-    assert_eq!(bank.interrupt_request(8, 0xff), done(0x0010_0004));
+    assert_eq!(bank.interrupt_request(8, 0xff, &[]), done(0x0010_0004));
     assert_eq!(bank.interrupt_sync, 5);
     assert_eq!(bank.receipt_sync, 1);
 }
@@ -627,32 +636,32 @@ fn interrupt_order() {
 fn entdaa() {
     let codes = |bank: &Bank| -> Vec<u8> {
         (0..=15)
-            .filter(|code| bank.clone().finish(*code).number == 0)
+            .filter(|code| bank.clone().finish(*code, &mut []).number == 0)
             .collect()
     };
     let mut bank = released();
     started(&mut bank, &[CCC | 0x511, 0x107]);
     assert_eq!(codes(&bank), [0, 4]);
-    assert_eq!(bank.address_take(), refuse(10));
-    assert_eq!(bank.address_request(0xaaaa_aaaa, 0x5555_5555), done(0));
+    assert_eq!(bank.address_take(&[]), refuse(10));
+    assert_eq!(bank.address_request(0xaaaa_aaaa, 0x5555_5555, &[]), done(0));
     assert_eq!(value_at(&mut bank, 0x88), 0x85);
-    assert_eq!(bank.address_request(0, 0), refuse(10));
-    assert_eq!(bank.address_take(), refuse(12));
+    assert_eq!(bank.address_request(0, 0, &[]), refuse(10));
+    assert_eq!(bank.address_take(&[]), refuse(12));
     assert_eq!(codes(&bank), []);
     bank.write(0xdc, 0x10ff_ffff);
     assert_eq!(value_at(&mut bank, 0x88), 0x01);
-    assert_eq!(bank.address_take(), done(8));
+    assert_eq!(bank.address_take(&[]), done(8));
     assert_eq!(value_at(&mut bank, 0x88), 0x05);
     assert_eq!(codes(&bank), [0]);
-    assert_eq!(bank.address_take(), refuse(10));
-    assert_eq!(bank.address_request(1, 2), done(0));
+    assert_eq!(bank.address_take(&[]), refuse(10));
+    assert_eq!(bank.address_request(1, 2, &[]), done(0));
     assert_eq!(bank.write(0xdc, 0x1300_0000), done(0));
-    assert_eq!(bank.address_take(), done(9));
-    assert_eq!(bank.address_request(3, 4), refuse(13));
+    assert_eq!(bank.address_take(&[]), done(9));
+    assert_eq!(bank.address_request(3, 4, &[]), refuse(13));
     assert_eq!(bank.read(0xe0), done(0xaaaa_aaaa));
-    assert_eq!(bank.address_request(3, 4), refuse(13));
+    assert_eq!(bank.address_request(3, 4, &[]), refuse(13));
     assert_eq!(bank.read(0xe0), done(0x5555_5555));
-    assert_eq!(bank.finish(0), done(0));
+    assert_eq!(bank.finish(0, &mut []), done(0));
     assert_eq!(bank.read(0xe0), done(1));
     assert_eq!(bank.read(0xe0), done(2));
 }
@@ -664,23 +673,23 @@ fn pending_address() {
     started(&mut bank, &[CCC, 7]);
     bank.write(0xdc, 0x1100_0000);
     bank.write(0xdc, 0x1200_0000);
-    assert_eq!(bank.address_request(1, 2), done(0));
+    assert_eq!(bank.address_request(1, 2, &[]), done(0));
     assert_eq!(value_at(&mut bank, 0x88) & 0x80, 0);
     let nineteen = |value| Answer { value, number: 19 };
-    assert_eq!(bank.address_take(), nineteen(8));
+    assert_eq!(bank.address_take(&[]), nineteen(8));
     assert_eq!(value_at(&mut bank, 0x88) & 0x80, 0);
-    assert_eq!(bank.address_take(), nineteen(9));
+    assert_eq!(bank.address_take(&[]), nineteen(9));
     assert_eq!(value_at(&mut bank, 0x88) & 0x80, 0x80);
-    assert_eq!(bank.finish(0), refuse(14));
+    assert_eq!(bank.finish(0, &mut []), refuse(14));
     bank.write(0x84, 0x80);
     assert_eq!(value_at(&mut bank, 0x88) & 0x80, 0);
-    assert_eq!(bank.address_take(), refuse(12));
+    assert_eq!(bank.address_take(&[]), refuse(12));
     bank.write(0xdc, 0);
-    assert_eq!(bank.address_take(), nineteen(0));
+    assert_eq!(bank.address_take(&[]), nineteen(0));
     bank.write(0xdc, 0xfe00_0000);
-    assert_eq!(bank.address_take(), done(0x7f));
-    assert_eq!(bank.finish(4), refuse(14));
-    assert_eq!(bank.finish(0), done(0));
+    assert_eq!(bank.address_take(&[]), done(0x7f));
+    assert_eq!(bank.finish(4, &mut []), refuse(14));
+    assert_eq!(bank.finish(0, &mut []), done(0));
 }
 
 /// 01, Address request and take: "10 (not ENTDAA ...)"; 0x87 is not ENTDAA.
@@ -689,8 +698,8 @@ fn address_events_need_entdaa() {
     for words in [&[0x10][..], &[0x1e], &[CCC, 6], &[CCC | 0x10, 0x87]] {
         let mut bank = with_device();
         started(&mut bank, words);
-        assert_eq!(bank.address_request(0, 0), refuse(10));
-        assert_eq!(bank.address_take(), refuse(10));
+        assert_eq!(bank.address_request(0, 0, &[]), refuse(10));
+        assert_eq!(bank.address_take(&[]), refuse(10));
     }
     let mut bank = with_device();
     bank.write(0xdc, 0);
@@ -733,22 +742,34 @@ fn random_command_word(random: &mut Random) -> u32 {
     }
 }
 
+/// A command of a burst, carried or not.
+fn random_burst_command(random: &mut Random) -> u32 {
+    match random.below(40) {
+        0 => random.word(),
+        _ => random.below(2) * HEADER | random.below(5) << 8 | 0x10 | random.below(4),
+    }
+}
+
 fn random_write(random: &mut Random) -> Call {
-    let (offset, value) = match random.below(16) {
+    let (offset, value) = match random.below(20) {
         0..=4 => (0xd4, random_command_word(random)),
         5..=8 => (0xdc, random.word()),
         9 | 10 => (0x180, 0x1100 | random.below(0x400)),
         11 => (0x140, random.below(8) | random.below(2) * 3),
-        12 => (0x100, random.word() & !random.one_of(&[0, 1, 1, 1])),
+        12 => (0x100, random.one_of(&[0, 0, 0, 1, 3, 5, 7, 9, 0x1f])),
         13 => (0x84, random.word()),
         14 => (0x40, u32::from(random.below(8) == 0)),
+        15..=18 => (
+            0x2c0 + 4 * random.below(4) as u16,
+            random_burst_command(random),
+        ),
         _ => (random.below(0x344) as u16, random.word()),
     };
     Call::Write { offset, value }
 }
 
 fn random_call(random: &mut Random) -> Call {
-    match random.below(20) {
+    match random.below(22) {
         0..=4 => random_write(random),
         5..=7 => Call::Read {
             offset: random.one_of(&[0x88, 0xc0, 0xd8, 0xd8, 0xe0, 0xe0, 0xe4, 0x84, 0x100]),
@@ -769,7 +790,8 @@ fn random_call(random: &mut Random) -> Call {
             first: random.word(),
             second: random.word(),
         },
-        _ => Call::AddressTake,
+        18 | 19 => Call::AddressTake,
+        _ => Call::Trigger,
     }
 }
 
@@ -784,6 +806,9 @@ struct Count {
     receipts: Vec<u32>,
     receipts_read: Vec<u32>,
     room_seen: bool,
+    offload_length: u32,
+    /// 02: "demand 3 speaks of direct commands only".
+    burst_left: u32,
 }
 
 impl Count {
@@ -830,6 +855,19 @@ impl Count {
                 offset: 0x40,
                 value,
             } => self.note_enable(value),
+            Call::Write {
+                offset: 0x100,
+                value,
+            } => self.offload_length = value >> 1 & 0xf,
+            Call::Trigger => {
+                assert!(!self.open && self.burst_left == 0);
+                self.burst_left = self.offload_length;
+            }
+            Call::Send | Call::Receive { .. } if self.burst_left > 0 => {}
+            Call::Finish { .. } if self.burst_left > 0 => {
+                assert_eq!(answer.value, 0);
+                self.burst_left -= 1;
+            }
             Call::Read { offset: 0xc0 } => {
                 if answer.value > 0 {
                     self.room_seen = true;
@@ -837,7 +875,7 @@ impl Count {
             }
             Call::Read { offset: 0xd8 } => self.receipts_read.push(answer.value),
             Call::Start => {
-                assert!(!self.open);
+                assert!(!self.open && self.burst_left == 0);
                 self.open = true;
                 self.moved = 0;
                 self.start_values.push(answer.value);
@@ -852,11 +890,12 @@ impl Count {
     }
 
     fn note_enable(&mut self, value: u32) {
-        if value & 1 == 1 {
-            *self = Count::default();
-        } else if !self.released {
-            *self = Count::default();
-            self.released = true;
+        if value & 1 == 1 || !self.released {
+            *self = Count {
+                released: value & 1 == 0,
+                offload_length: self.offload_length,
+                ..Count::default()
+            };
         }
     }
 
@@ -897,7 +936,8 @@ impl Count {
         let words_started: usize = commands[..started].iter().map(Vec::len).sum();
         assert!(bank.cmd.words.iter().eq(&self.words[words_started..]));
         assert_eq!(self.receipts.len(), started - usize::from(self.open));
-        assert_eq!(bank.transfer.is_some(), self.open);
+        assert_eq!(bank.transfer.is_some(), self.open || self.burst_left > 0);
+        assert_eq!(bank.burst_place().is_some(), self.burst_left > 0);
         assert!(self
             .receipts_read
             .iter()
@@ -910,7 +950,7 @@ fn is_entdaa(command: &[u32]) -> bool {
     command.len() == 2 && command[1] & 0xff == 7
 }
 
-/// 01, Well formed, as far as this engine has the parts.
+/// 01 and 02, Well formed, as far as this engine has the parts.
 fn check_well_formed(bank: &Bank) {
     for queue in [&bank.cmd, &bank.cmdr, &bank.sdo, &bank.sdi, &bank.ibi] {
         assert!(queue.level() <= queue.capacity);
@@ -929,7 +969,21 @@ fn check_well_formed(bank: &Bank) {
         assert!(moved <= transfer.command.length);
         assert!(transfer.attached || moved == 0);
         let (left, gathered) = (transfer.left.len() as u32, transfer.gathered.len() as u32);
-        if transfer.is_read() {
+        if let Some(place) = transfer.burst_place {
+            // 02: "an open burst pass 8, 28 and 29 and stand at one of its commands,
+            // with that one's transfer open and its counts as that place says, a
+            // read's up to 4 bytes all gathered".
+            let commands = bank.burst_commands();
+            assert!(bank.is_in_offload_mode());
+            assert!(commands.iter().all(|word| is_carried(*word)));
+            assert_eq!(transfer.command, parse_command(commands[place], None));
+            let counts = if transfer.is_read() {
+                (0, moved)
+            } else {
+                (4 - moved, 0)
+            };
+            assert_eq!((left, gathered), counts);
+        } else if transfer.is_read() {
             assert_eq!((left, gathered), (0, moved % 4));
         } else {
             assert_eq!((left, gathered), ((4 - moved % 4) % 4, 0));
@@ -939,8 +993,9 @@ fn check_well_formed(bank: &Bank) {
 
 #[test]
 fn random_calls_keep_demand_3() {
-    let mut seen = [false; 24];
+    let mut seen = [false; 30];
     let mut most_receipts = 0;
+    let mut words_written = 0;
     for seed in 0..60 {
         let mut random = Random(seed);
         let numbers = SetupNumbers {
@@ -963,10 +1018,18 @@ fn random_calls_keep_demand_3() {
         let (mut bank, answer) = set_up(&numbers);
         assert_eq!(answer, done(0));
         let mut count = Count::default();
-        for _ in 0..4000 {
+        let mut output = [u32::MAX; 5];
+        for _ in 0..6000 {
             let call = random_call(&mut random);
             let before = bank.clone();
-            let answer = bank.call(&call);
+            let output_before = output;
+            let lent = random.one_of(&[0, 1, 3, 5, 5, 5, 5, 5]);
+            let answer = bank.call(&call, &mut output[..lent]);
+            if output != output_before {
+                // A read of a burst finished.
+                assert!(matches!(call, Call::Finish { .. }) && before.burst_place().is_some());
+                words_written += 1;
+            }
             seen[usize::from(answer.number)] = true;
             if answer.number != 0 && answer.number != 19 {
                 assert_eq!(answer.value, 0);
@@ -978,9 +1041,10 @@ fn random_calls_keep_demand_3() {
             most_receipts = most_receipts.max(count.receipts.len());
         }
     }
-    // Every number but those that need a bank or store not well formed or a
-    // set-up.
-    let not_seen: Vec<usize> = (0..24).filter(|n| !seen[*n]).collect();
-    assert_eq!(not_seen, [21, 22, 23]);
+    // Every number but those that need a bank or store not well formed, a set-up or
+    // a trace.
+    let not_seen: Vec<usize> = (0..30).filter(|n| !seen[*n]).collect();
+    assert_eq!(not_seen, [21, 22, 23, 24, 25, 26, 27]);
     assert!(most_receipts > 0);
+    assert!(words_written > 500);
 }

@@ -1,7 +1,6 @@
 -- `controller::finish` meets its contract.
-use Rattle.answer.specs.Given.{tablesOf}
 use Rattle.model.specs.declared.Call.the-variants.{Finish}
-use mathlib.Core.Path.{sym, _∙_}
+use mathlib.Core.Path.{refl, sym, _∙_}
 use Rattle.controller.proofs.Guards.{faulty, sound, opens}
 use borrow.Author.Needs.{needs}
 use Rattle.controller.proofs.finish.Statement.{statement}
@@ -14,16 +13,19 @@ refuse-requires : tie.Need-refuse-requires
 refuse-requires c κs = search needs
 
 returns : tie.Need-returns
-returns c = let a = c .before .before .before .before in
+returns c =
+    let a = c .before .before .before .before .before in
     let b = a .args .b in
     let s = a .args .store .now in
-    rw (c .refuse .ensures) (faulty b s (Finish (a .args .code)) _ (c .before .if1 .taken) (c .before .before .fault .ensures))
+    let o = a .args .output .now in
+    rw (c .refuse .ensures) (faulty b s o (Finish (a .args .code)) _ (c .before .if1 .taken) (c .before .before .fault .ensures))
 
 finish-requires : tie.Need-finish-requires
-finish-requires c κs = let a = c .before .before .before .before in
+finish-requires c κs =
+    let a = c .before .before .before .before .before .before .before .before .before .before in
     let b = a .args .b in
     let s = a .args .store .now in
-    opens b s (sym (c .before .before .fault .ensures) ∙ c .before .if1 .left)
+    opens b s (sym (c .before .before .before .before .before .before .before .fault .ensures) ∙ c .before .before .before .before .before .before .if1 .left)
 
 with-state-requires : tie.Need-with-state-requires
 with-state-requires c κs = search needs
@@ -31,11 +33,16 @@ with-state-requires c κs = search needs
 same-length : tie.Need-same-length
 same-length c = search needs
 
+same-length-2 : tie.Need-same-length-2
+same-length-2 c = search needs
+
 returns-2 : tie.Need-returns-2
-returns-2 c = let a = c .before .before .before .before .before .before .before .before in
+returns-2 c =
+    let a = c .before .before .before .before .before .before .before .before .before .before .before .before .before .before .before .before in
     let b = a .args .b in
     let s = a .args .store .now in
-    rw (c .with-state .ensures) (c .before .before .before .finish .ensures (tablesOf b) ∙ sound b s (Finish (a .args .code)) (sym (c .before .before .before .before .before .before .fault .ensures) ∙ c .before .before .before .before .before .if1 .left))
+    let o = a .args .output .now in
+    rw (c .with-state .ensures) (c .before .before .before .before .before .finish .ensures (b .payloads) ∙ sound b s o (Finish (a .args .code)) (sym (c .before .before .before .before .before .before .before .before .before .before .before .before .before .fault .ensures) ∙ c .before .before .before .before .before .before .before .before .before .before .before .before .if1 .left))
 
 pub finish-spec : {M : Type 1} → statement M
 finish-spec =
@@ -47,4 +54,5 @@ finish-spec =
     finish-requires
     with-state-requires
     same-length
+    same-length-2
     returns-2)

@@ -1,7 +1,6 @@
 -- `controller::request` meets its contract.
-use Rattle.answer.specs.Given.{tablesOf}
 use Rattle.model.specs.declared.Call.the-variants.{Request}
-use mathlib.Core.Path.{sym, _∙_}
+use mathlib.Core.Path.{refl, sym, _∙_}
 use Rattle.controller.proofs.Guards.{faulty, sound, opens}
 use borrow.Author.Needs.{needs}
 use Rattle.controller.proofs.request.Statement.{statement}
@@ -14,16 +13,19 @@ refuse-requires : tie.Need-refuse-requires
 refuse-requires c κs = search needs
 
 returns : tie.Need-returns
-returns c = let a = c .before .before .before .before in
+returns c =
+    let a = c .before .before .before .before .before in
     let b = a .args .b in
     let s = a .args .store .now in
-    rw (c .refuse .ensures) (faulty b s (Request (a .args .v) (a .args .w)) _ (c .before .if1 .taken) (c .before .before .fault .ensures))
+    let o = a .args .output .now in
+    rw (c .refuse .ensures) (faulty b s o (Request (a .args .v) (a .args .w)) _ (c .before .if1 .taken) (c .before .before .fault .ensures))
 
 request-requires : tie.Need-request-requires
-request-requires c κs = let a = c .before .before .before .before in
+request-requires c κs =
+    let a = c .before .before .before .before .before .before .before in
     let b = a .args .b in
     let s = a .args .store .now in
-    opens b s (sym (c .before .before .fault .ensures) ∙ c .before .if1 .left)
+    opens b s (sym (c .before .before .before .before .fault .ensures) ∙ c .before .before .before .if1 .left) .bank
 
 with-state-requires : tie.Need-with-state-requires
 with-state-requires c κs = search needs
@@ -32,10 +34,12 @@ same-length : tie.Need-same-length
 same-length c = search needs
 
 returns-2 : tie.Need-returns-2
-returns-2 c = let a = c .before .before .before .before .before .before .before .before in
+returns-2 c =
+    let a = c .before .before .before .before .before .before .before .before .before .before .before in
     let b = a .args .b in
     let s = a .args .store .now in
-    rw (c .with-state .ensures) (c .before .before .before .request .ensures (tablesOf b) ∙ sound b s (Request (a .args .v) (a .args .w)) (sym (c .before .before .before .before .before .before .fault .ensures) ∙ c .before .before .before .before .before .if1 .left))
+    let o = a .args .output .now in
+    rw (c .with-state .ensures) (c .before .before .before .request .ensures (b .flags) (b .payloads) o refl ∙ sound b s o (Request (a .args .v) (a .args .w)) (sym (c .before .before .before .before .before .before .before .before .fault .ensures) ∙ c .before .before .before .before .before .before .before .if1 .left))
 
 pub request-spec : {M : Type 1} → statement M
 request-spec =

@@ -1,6 +1,6 @@
 -- `controller::start` meets its contract.
 use Rattle.model.specs.declared.Call.the-variants.{Start}
-use mathlib.Core.Path.{sym, _∙_}
+use mathlib.Core.Path.{refl, sym, _∙_}
 use Rattle.controller.proofs.Guards.{faulty, sound, opens}
 use borrow.Author.Needs.{needs}
 use Rattle.controller.proofs.start.Statement.{statement}
@@ -13,25 +13,30 @@ refuse-requires : tie.Need-refuse-requires
 refuse-requires c κs = search needs
 
 returns : tie.Need-returns
-returns c = let a = c .before .before .before .before in
+returns c =
+    let a = c .before .before .before .before .before in
     let b = a .args .b in
     let s = a .args .store .now in
-    rw (c .refuse .ensures) (faulty b s Start _ (c .before .if1 .taken) (c .before .before .fault .ensures))
+    let o = a .args .output .now in
+    rw (c .refuse .ensures) (faulty b s o Start _ (c .before .if1 .taken) (c .before .before .fault .ensures))
 
 start-requires : tie.Need-start-requires
-start-requires c κs = let a = c .before .before .before .before .before in
+start-requires c κs =
+    let a = c .before .before .before .before .before .before .before .before in
     let b = a .args .b in
     let s = a .args .store .now in
-    opens b s (sym (c .before .before .before .fault .ensures) ∙ c .before .before .if1 .left)
+    opens b s (sym (c .before .before .before .before .before .fault .ensures) ∙ c .before .before .before .before .if1 .left) .bank
 
 with-state-requires : tie.Need-with-state-requires
 with-state-requires c κs = search needs
 
 returns-2 : tie.Need-returns-2
-returns-2 c = let a = c .before .before .before .before .before .before .before in
+returns-2 c =
+    let a = c .before .before .before .before .before .before .before .before .before .before in
     let b = a .args .b in
     let s = a .args .store .now in
-    rw (c .with-state .ensures) (c .before .start .ensures (b .commands) (b .payloads) ∙ sound b s Start (sym (c .before .before .before .before .before .fault .ensures) ∙ c .before .before .before .before .if1 .left))
+    let o = a .args .output .now in
+    rw (c .with-state .ensures) (c .before .start .ensures (b .payloads) o refl ∙ sound b s o Start (sym (c .before .before .before .before .before .before .before .fault .ensures) ∙ c .before .before .before .before .before .before .if1 .left))
 
 pub start-spec : {M : Type 1} → statement M
 start-spec =

@@ -15,10 +15,19 @@ with-tables-requires c κs = search needs
 same-length : tie.Need-same-length
 same-length c = search needs
 
+same-length-2 : tie.Need-same-length-2
+same-length-2 c = search needs
+
 returns : tie.Need-returns
-returns c = rw (c .with-tables .ensures) (c .before .before .before .step-parts .ensures)
+returns c = rw (c .with-tables .ensures) (c .before .before .before .before .before .step-parts .ensures)
 
 pub step-spec : {M : Type 1} → statement M
 step-spec =
     tie.close
-    (tie.spec fault-requires step-parts-requires with-tables-requires same-length returns)
+    (tie.spec
+    fault-requires
+    step-parts-requires
+    with-tables-requires
+    same-length
+    same-length-2
+    returns)

@@ -10,8 +10,8 @@ queues-ok-requires c κs = search needs
 regs-ok-requires : tie.Need-regs-ok-requires
 regs-ok-requires c κs = search needs
 
-phase-ok-requires : tie.Need-phase-ok-requires
-phase-ok-requires c κs = search needs
+open-ok-requires : tie.Need-open-ok-requires
+open-ok-requires c κs = search needs
 
 reset-ok-requires : tie.Need-reset-ok-requires
 reset-ok-requires c κs = search needs
@@ -21,7 +21,7 @@ flags-ok-requires c κs = search needs
 
 returns : tie.Need-returns
 unfolding wellFormed
-returns c = rw (c .flags-ok .ensures, c .before .reset-ok .ensures, c .before .before .phase-ok .ensures, c .before .before .before .regs-ok .ensures, c .before .before .before .before .queues-ok .ensures)
+returns c = rw (c .flags-ok .ensures, c .before .reset-ok .ensures, c .before .before .open-ok .ensures, c .before .before .before .before .regs-ok .ensures, c .before .before .before .before .before .queues-ok .ensures)
 
 pub well-formed-spec : {M : Type 1} → statement M
 well-formed-spec =
@@ -29,7 +29,7 @@ well-formed-spec =
     (tie.spec
     queues-ok-requires
     regs-ok-requires
-    phase-ok-requires
+    open-ok-requires
     reset-ok-requires
     flags-ok-requires
     returns)

@@ -100,6 +100,10 @@ module _ {M : Type 1} (𝓤 : URA M) (H : Heap 𝓤) (A : Atoms 𝓤) (W : Given
   abbrev to-step : Step 𝓤 H A at-mem run .Ghost
   to-step = (((κ′, tt), (q′, tt), tt, (h, (x, (i, tt))), (bank-val h ∷ [], (s ∷ [], (vint w16 i ∷ [], tt)))), tt)
 
+  -- what `controller::read` ensures, for every output
+  abbrev Said : Out → Type 0
+  Said r = (ts : List ℕ) → givenOut r ys ts ≡ stepOf rings (controller h ys ts) (Read i)
+
   -- what the store's `&` owns
   abbrev Own : Fml
   Own = ShrSlice (named 1) κ′ u32 .own x (s ∷ [])
@@ -110,10 +114,10 @@ module _ {M : Type 1} (𝓤 : URA M) (H : Heap 𝓤) (A : Atoms 𝓤) (W : Given
       nothing ! $ owned ! u16 (Is u16) (uint-makes 𝓤 H A W w16) i _ (refl, i-fits) $ fjoin ! $
       move ! (2 ∷ 0 ∷ []) $ fjoin ! $ owned ! B.the-row (Is B.the-row) (LL.makes B.the-type B′.the-plain 𝓤 H A) h _ g $ fjoin ! $ move ! (1 ∷ 0 ∷ []) $ join ! $ frame ! $ done !
 
-  stepped : (r : Out) → ent 𝓤 (ensured 𝓤 H A read.ended (read.clauses 𝓤 H A at-mem run) (κ′, tt) (h, (x, (i, tt))) tt r) (fact 𝓤 (givenOut r ys ≡ stepOf rings (controller h ys) (Read i)))
-  stepped r = exE 𝓤 _ (λ ws. snd∗ 𝓤 (sem 𝓤 H A (lasts read.ended (κ′, tt) (h, (x, (i, tt))) ws)) (fact 𝓤 (givenOut r ys ≡ stepOf rings (controller h ys) (Read i))))
+  stepped : (r : Out) → ent 𝓤 (ensured 𝓤 H A read.ended (read.clauses 𝓤 H A at-mem run) (κ′, tt) (h, (x, (i, tt))) tt r) (fact 𝓤 (Said r))
+  stepped r = exE 𝓤 _ (λ ws. snd∗ 𝓤 (sem 𝓤 H A (lasts read.ended (κ′, tt) (h, (x, (i, tt))) ws)) (fact 𝓤 (Said r)))
 
-  exits : (r : Out) → givenOut r ys ≡ stepOf rings (controller h ys) (Read i) → Is N.the-row (r .answer) (ans-val r ∷ [])
+  exits : (r : Out) → Said r → Is N.the-row (r .answer) (ans-val r ∷ [])
       → ent 𝓤 (⋆ 𝓤 H A (‵ (fobs γ (B.the-row .coded .code (r .bank))) ∷ ‵ (fbor κ (Body (mem B.the-row) b o γ)) ∷ ‵ (flft κ q) ∷ (‵ (flft κ′ q′) ⊛ ‵ ftrue) ∷ ‵ Own ∷ [])) (Post (ans-val r))
   exits r e gn =
       qed W (‵ (fobs γ (B.the-row .coded .code (r .bank))) ∷ ‵ (fbor κ (Body (mem B.the-row) b o γ)) ∷ ‵ (flft κ q) ∷ (‵ (flft κ′ q′) ⊛ ‵ ftrue) ∷ ‵ Own ∷ []) ∵
@@ -142,7 +146,7 @@ module _ {M : Type 1} (𝓤 : URA M) (H : Heap 𝓤) (A : Atoms 𝓤) (W : Given
         -- [what `controller::read` asks; the store's `&`; …; the cell; the open borrow; obs; auth; _5 (7); …; _4 (9); …; _3 (11); …; _2 (13); …; _1 (15); …; _0 (17); …]
         calls-at ! fm (Step 𝓤 H A at-mem run) known to-step (and-then ! (load ! (from ! (stop !)) (look ! 7 refl)) (and-then ! (load ! (from ! (stop !)) (look ! 13 refl)) (and-then ! (load ! (from ! (stop !)) (look ! 11 refl)) (no-more !)))) (λ w.
         use1 W (later (some (λ (r : Out). ((‵ (flft κ′ q′) ⊛ ‵ ftrue) ⊛ ‵ (O.the-row .own r (w ∷ []))) ⊛ raw (ensured 𝓤 H A read.ended (read.clauses 𝓤 H A at-mem run) (κ′, tt) (h, (x, (i, tt))) tt r)))) (id⊢ 𝓤 _) $ await ! tt $ pick ! (λ r.
-        split ! $ move ! (1 ∷ []) $ use1 W (raw (fact 𝓤 (givenOut r ys ≡ stepOf rings (controller h ys) (Read i)))) (stepped r) $ heard ! (givenOut r ys ≡ stepOf rings (controller h ys) (Read i)) (λ e. split ! $
+        split ! $ move ! (1 ∷ []) $ use1 W (raw (fact 𝓤 (Said r))) (stepped r) $ heard ! (Said r) (λ e. split ! $
         move ! (1 ∷ []) $ peeks ! O.the-row (Is O.the-row) (shows 𝓤 H A O.the-row) r (w ∷ []) (λ is. drop ! $
         -- [the store's token; the store's `&`; …; the cell (3); the open borrow; obs; auth; _5 (7); …; _4 (9); …; _3 (11); …; _2 (13); …; _1 (15); …; _0 (17); …]
         land ! (from ! (stop !)) (init ! 9 refl (LL.lawful O.the-type O′.the-laws 𝓤 H A W .typed r _ is .0)) $ rewrite ! 9 (λ (u : Val). ‵ (fat fullShare O′.mir l₄ 0 u)) (ap only (LL.tells O.the-type O′.the-laws r _ is)) refl $

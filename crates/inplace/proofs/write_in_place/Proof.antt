@@ -100,9 +100,9 @@ module _ {M : Type 1} (𝓤 : URA M) (H : Heap 𝓤) (A : Atoms 𝓤) (W : Given
   abbrev to-step : Step 𝓤 H A at-mem run .Ghost
   to-step = (((κ′, tt), (q′, tt), tt, (h, (x, (i, (v, tt)))), (bank-val h ∷ [], (s ∷ [], (vint w16 i ∷ [], (vint w32 v ∷ [], tt))))), tt)
 
-  -- what `controller::write` ensures, at the store's last list
+  -- what `controller::write` ensures, at the store's last list and for every output
   abbrev Said : Out → List ℕ → Type 0
-  Said r zs = givenOut r zs ≡ stepOf rings (controller h ys) (Write i v)
+  Said r zs = (ts : List ℕ) → givenOut r zs ts ≡ stepOf rings (controller h ys ts) (Write i v)
 
   goes-step : Is B.the-row h (bank-val h ∷ []) → ent 𝓤 (sep 𝓤 (sep 𝓤 (A .lft κ′ q′) (sem 𝓤 H A ftrue)) (sem 𝓤 H A (MutSlice (named 0) κ′ u32 .own x (s ∷ [])))) (Step 𝓤 H A at-mem run .pre to-step)
   goes-step g =

@@ -17,20 +17,26 @@ run-requires c κs = search needs
 same-length : tie.Need-same-length
 same-length c = search needs
 
-returns : tie.Need-returns
-returns c = let a = c .before .before .before .before .before .before .before .before .before .args in (silent (controller (a .b) (a .store .now)) (a .line) (c .before .before .before .before .before .run .result) (c .before .before .before .before .before .run .last .1 .0) (take (a .at) (a .out .now)) (c .before .before .before .before .before .run .ensures) (not-true _ (c .if1 .taken)), search needs)
-
-put-requires : tie.Need-put-requires
-put-requires c κs = search needs
-
 same-length-2 : tie.Need-same-length-2
 same-length-2 c = search needs
+
+returns : tie.Need-returns
+returns c = let a = c .before .before .before .before .before .before .before .before .before .before .before .before .before .args in let r = c .before .before .before .before .before .before .before .run in (silent (controller (a .b) (a .store .now) (a .output .now)) (a .line) (r .result) (r .last .1 .0) (r .last .1 .1 .0) (take (a .at) (a .out .now)) (r .ensures) (not-true _ (c .if1 .taken)), search needs)
+
+put-requires : tie.Need-put-requires
+put-requires c κs = c .before .before .before .before .before .before .before .before .before .before .before .before .before .before .before .pre
 
 same-length-3 : tie.Need-same-length-3
 same-length-3 c = search needs
 
+same-length-4 : tie.Need-same-length-4
+same-length-4 c = search needs
+
+same-length-5 : tie.Need-same-length-5
+same-length-5 c = search needs
+
 returns-2 : tie.Need-returns-2
-returns-2 c = let a = c .before .before .before .before .before .before .before .before .before .before .before .before .before .before .args in (spoken (controller (a .b) (a .store .now)) (a .line) (c .before .before .before .before .before .before .before .before .before .before .run .result) (c .before .before .before .before .before .before .before .before .before .before .run .last .1 .0) (take (a .at) (a .out .now)) (take (a .at + 12) (c .before .before .put .last .0)) (c .before .before .before .before .before .before .before .before .before .before .run .ensures) (not-false _ (c .before .before .before .before .before .if1 .left)) (c .before .before .put .ensures), search needs)
+returns-2 c = let a = c .before .before .before .before .before .before .before .before .before .before .before .before .before .before .before .before .before .before .args in let r = c .before .before .before .before .before .before .before .before .before .before .before .before .run in (spoken (controller (a .b) (a .store .now) (a .output .now)) (a .line) (r .result) (r .last .1 .0) (r .last .1 .1 .0) (take (a .at) (a .out .now)) (take (a .at + 12) (c .before .before .put .last .0)) (r .ensures) (not-false _ (c .before .before .before .before .before .if1 .left)) (c .before .before .put .ensures), search needs)
 
 pub end-line-spec : {M : Type 1} → statement M
 end-line-spec =
@@ -39,8 +45,10 @@ end-line-spec =
     add-end
     run-requires
     same-length
+    same-length-2
     returns
     put-requires
-    same-length-2
     same-length-3
+    same-length-4
+    same-length-5
     returns-2)

@@ -24,11 +24,14 @@ silent-requires c κs = search needs
 same-length : tie.Need-same-length
 same-length c = search needs
 
+same-length-2 : tie.Need-same-length-2
+same-length-2 c = search needs
+
 returns : tie.Need-returns
-returns c = let a = c .before .before .before .before .before .before .before .before .before .args in c .before .before .serve .ensures ∙ ap (ranOf (controller (a .b) (a .store .now))) (sym (c .before .before .before .before .before .c .given .1) ∙ c .before .before .before .before .before .before .before .named .ensures)
+returns c = let a = c .before .before .before .before .before .before .before .before .before .before .before .before .before .args in c .before .before .before .before .serve .ensures ∙ ap (ranOf (controller (a .b) (a .store .now) (a .output .now))) (sym (c .before .before .before .before .before .before .before .before .c .given .1) ∙ c .before .before .before .before .before .before .before .before .before .before .named .ensures)
 
 returns-2 : tie.Need-returns-2
-returns-2 c = let a = c .before .before .before .before .before .args in c .silent .ensures (a .store .now) ∙ ap (ranOf (controller (a .b) (a .store .now))) (sym (c .before .enum-told .given .1) ∙ c .before .before .before .named .ensures)
+returns-2 c = let a = c .before .before .before .before .before .before .args in c .silent .ensures (a .store .now) (a .output .now) ∙ ap (ranOf (controller (a .b) (a .store .now) (a .output .now))) (sym (c .before .enum-told .given .1) ∙ c .before .before .before .named .ensures)
 
 pub run-spec : {M : Type 1} → statement M
 run-spec =
@@ -40,5 +43,6 @@ run-spec =
     enum-told
     silent-requires
     same-length
+    same-length-2
     returns
     returns-2)

@@ -16,8 +16,11 @@ line-requires c κs = search needs
 same-length : tie.Need-same-length
 same-length c = search needs
 
+same-length-2 : tie.Need-same-length-2
+same-length-2 c = search needs
+
 returns : tie.Need-returns
-returns c = rw (c .before .line .ensures) (ap (λ (x : Step Controller). told (x .next) (answerLine (x .answer))) (c .before .before .before .before .step .ensures))
+returns c = rw (c .before .line .ensures) (ap (λ (x : Step Controller). told (x .next) (answerLine (x .answer))) (c .before .before .before .before .before .before .step .ensures))
 
 pub serve-spec : {M : Type 1} → statement M
-serve-spec = tie.close (tie.spec step-requires line-requires same-length returns)
+serve-spec = tie.close (tie.spec step-requires line-requires same-length same-length-2 returns)

@@ -26,7 +26,7 @@ transfer-of-requires c κs = search needs
 gathered-requires : tie.Need-gathered-requires
 gathered-requires c κs = let a = c .before .before .before .before .before in
     let s = a .args .store .now in
-    rw (c .before .transfer-of .ensures) (reading-part (a .args .st .phase) (a .pre .phase) (receives (view (a .args .st) noTables s) (a .args .byte) (sym (c .before .before .before .receive-number .ensures noTables s (a .args .byte)) ∙ c .before .before .if1 .left) .reads))
+    rw (c .before .transfer-of .ensures) (reading-part (a .args .st .phase) (a .pre .1) (receives (view (a .args .st) noTables s) (a .args .byte) (sym (c .before .before .before .receive-number .ensures noTables s (a .args .byte)) ∙ c .before .before .if1 .left) .reads))
 
 sdi-at-requires : tie.Need-sdi-at-requires
 sdi-at-requires c κs = search needs
@@ -34,7 +34,7 @@ sdi-at-requires c κs = search needs
 push-if-requires : tie.Need-push-if-requires
 push-if-requires c κs = let a = c .before .before .before .before .before .before .before .before .before in
     let s = a .args .store .now in
-    (ready-of (a .args .st) s (a .pre) .sdi, rw (c .before .before .before .before .before .transfer-of .ensures) (receives (view (a .args .st) noTables s) (a .args .byte) (sym (c .before .before .before .before .before .before .before .receive-number .ensures noTables s (a .args .byte)) ∙ c .before .before .before .before .before .before .if1 .left) .room), (let r = ready-of (a .args .st) s (a .pre) .size in rw (c .before .before .sdi-at .ensures) (omega (arith, r))))
+    (ready-of (a .args .st) s (a .pre .0) .sdi, rw (c .before .before .before .before .before .transfer-of .ensures) (receives (view (a .args .st) noTables s) (a .args .byte) (sym (c .before .before .before .before .before .before .before .receive-number .ensures noTables s (a .args .byte)) ∙ c .before .before .before .before .before .before .if1 .left) .room), (let r = ready-of (a .args .st) s (a .pre .0) .size in rw (c .before .before .sdi-at .ensures) (omega (arith, r))))
 
 select-requires : tie.Need-select-requires
 select-requires c κs = search needs

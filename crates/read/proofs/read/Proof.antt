@@ -12,7 +12,7 @@ read-at-requires : tie.Need-read-at-requires
 read-at-requires c κs = (ready-of (c .before .before .args .st) (c .before .before .args .store .now) (c .before .before .pre), selected-below (c .before .before .args .st .regs) (c .before .before .pre .regs))
 
 returns : tie.Need-returns
-returns c = rw (← (c .before .register-at .ensures)) (c .read-at .ensures)
+returns c = λ o. rw (← (c .before .register-at .ensures)) (c .read-at .ensures o)
 
 pub read-spec : {M : Type 1} → statement M
 read-spec = tie.close (tie.spec register-at-requires read-at-requires returns)

@@ -1,6 +1,6 @@
 -- `read::read_at` meets its contract.
 use mathlib.Core.List.{[]}
-use Rattle.answer.specs.Given.{tables}
+use Rattle.answer.proofs.Laws.{noTables}
 use Rattle.read.proofs.Rows.{shown-row, absent-row}
 use Rattle.registers.specs.declared.Register.the-variants.{Version, Id, Scratch, Enable, IrqMask, IrqPending, IrqSource, CmdRoom, CmdrLevel, SdoRoom, SdiLevel, IbiLevel, CmdFifo, SdoFifo, FifoStatus, Ops, IbiConfig, DevChar, OffloadCmd, OffloadSdo}
 use mathlib.Core.Path.{refl}
@@ -192,76 +192,76 @@ refuse-requires : tie.Need-refuse-requires
 refuse-requires c κs = search needs
 
 returns : tie.Need-returns
-returns c = rw (c .before .enum-told .given .1, c .show .ensures) (shown-row _ _ _ Version _ refl)
+returns c = λ o. rw (c .before .enum-told .given .1, c .show .ensures) (shown-row _ _ _ Version _ refl)
 
 returns-2 : tie.Need-returns-2
-returns-2 c = rw (c .before .before .enum-told2 .given .1, c .show2 .ensures, c .before .wide .ensures .0) (shown-row _ _ _ Id _ refl)
+returns-2 c = λ o. rw (c .before .before .enum-told2 .given .1, c .show2 .ensures, c .before .wide .ensures .0) (shown-row _ _ _ Id _ refl)
 
 returns-3 : tie.Need-returns-3
-returns-3 c = rw (c .before .enum-told3 .given .1, c .show3 .ensures) (shown-row _ _ _ Scratch _ refl)
+returns-3 c = λ o. rw (c .before .enum-told3 .given .1, c .show3 .ensures) (shown-row _ _ _ Scratch _ refl)
 
 returns-4 : tie.Need-returns-4
-returns-4 c = rw (c .before .before .enum-told4 .given .1, c .show4 .ensures, c .before .weigh .ensures .0) (shown-row _ _ _ Enable _ refl)
+returns-4 c = λ o. rw (c .before .before .enum-told4 .given .1, c .show4 .ensures, c .before .weigh .ensures .0) (shown-row _ _ _ Enable _ refl)
 
 returns-5 : tie.Need-returns-5
-returns-5 c = rw (c .before .before .enum-told5 .given .1, c .show5 .ensures, c .before .wide2 .ensures .0) (shown-row _ _ _ IrqMask _ refl)
+returns-5 c = λ o. rw (c .before .before .enum-told5 .given .1, c .show5 .ensures, c .before .wide2 .ensures .0) (shown-row _ _ _ IrqMask _ refl)
 
 returns-6 : tie.Need-returns-6
-returns-6 c = rw (c .before .before .enum-told6 .given .1, c .show6 .ensures, c .before .sources-in .ensures (tables [] [] []) []) (shown-row _ _ _ IrqPending _ refl)
+returns-6 c = λ o. rw (c .before .before .enum-told6 .given .1, c .show6 .ensures, c .before .sources-in .ensures noTables []) (shown-row _ _ _ IrqPending _ refl)
 
 returns-7 : tie.Need-returns-7
-returns-7 c = rw (c .before .before .enum-told7 .given .1, c .show7 .ensures, c .before .sources-in2 .ensures (tables [] [] []) []) (shown-row _ _ _ IrqSource _ refl)
+returns-7 c = λ o. rw (c .before .before .enum-told7 .given .1, c .show7 .ensures, c .before .sources-in2 .ensures noTables []) (shown-row _ _ _ IrqSource _ refl)
 
 returns-8 : tie.Need-returns-8
-returns-8 c = rw (c .before .before .enum-told8 .given .1, c .show8 .ensures, c .before .room .ensures) (shown-row _ _ _ CmdRoom _ refl)
+returns-8 c = λ o. rw (c .before .before .enum-told8 .given .1, c .show8 .ensures, c .before .room .ensures) (shown-row _ _ _ CmdRoom _ refl)
 
 returns-9 : tie.Need-returns-9
-returns-9 c = rw (c .before .enum-told9 .given .1, c .show9 .ensures) (shown-row _ _ _ CmdrLevel _ refl)
+returns-9 c = λ o. rw (c .before .enum-told9 .given .1, c .show9 .ensures) (shown-row _ _ _ CmdrLevel _ refl)
 
 returns-10 : tie.Need-returns-10
-returns-10 c = rw (c .before .before .enum-told10 .given .1, c .show10 .ensures, c .before .room2 .ensures) (shown-row _ _ _ SdoRoom _ refl)
+returns-10 c = λ o. rw (c .before .before .enum-told10 .given .1, c .show10 .ensures, c .before .room2 .ensures) (shown-row _ _ _ SdoRoom _ refl)
 
 returns-11 : tie.Need-returns-11
-returns-11 c = rw (c .before .enum-told11 .given .1, c .show11 .ensures) (shown-row _ _ _ SdiLevel _ refl)
+returns-11 c = λ o. rw (c .before .enum-told11 .given .1, c .show11 .ensures) (shown-row _ _ _ SdiLevel _ refl)
 
 returns-12 : tie.Need-returns-12
-returns-12 c = rw (c .before .enum-told12 .given .1, c .show12 .ensures) (shown-row _ _ _ IbiLevel _ refl)
+returns-12 c = λ o. rw (c .before .enum-told12 .given .1, c .show12 .ensures) (shown-row _ _ _ IbiLevel _ refl)
 
 returns-13 : tie.Need-returns-13
-returns-13 c = rw (c .before .enum-told13 .given .1, c .show13 .ensures) (shown-row _ _ _ CmdFifo _ refl)
+returns-13 c = λ o. rw (c .before .enum-told13 .given .1, c .show13 .ensures) (shown-row _ _ _ CmdFifo _ refl)
 
 returns-14 : tie.Need-returns-14
-returns-14 c = rw (c .before .enum-told14 .given .1) (c .read-cmdr .ensures _)
+returns-14 c = λ o. rw (c .before .enum-told14 .given .1) (c .read-cmdr .ensures _)
 
 returns-15 : tie.Need-returns-15
-returns-15 c = rw (c .before .enum-told15 .given .1, c .show14 .ensures) (shown-row _ _ _ SdoFifo _ refl)
+returns-15 c = λ o. rw (c .before .enum-told15 .given .1, c .show14 .ensures) (shown-row _ _ _ SdoFifo _ refl)
 
 returns-16 : tie.Need-returns-16
-returns-16 c = rw (c .before .enum-told16 .given .1) (c .read-sdi .ensures _)
+returns-16 c = λ o. rw (c .before .enum-told16 .given .1) (c .read-sdi .ensures _)
 
 returns-17 : tie.Need-returns-17
-returns-17 c = rw (c .before .enum-told17 .given .1) (c .read-ibi .ensures _)
+returns-17 c = λ o. rw (c .before .enum-told17 .given .1) (c .read-ibi .ensures _)
 
 returns-18 : tie.Need-returns-18
-returns-18 c = rw (c .before .before .enum-told18 .given .1, c .show15 .ensures, c .before .status-word .ensures) (shown-row _ _ _ FifoStatus _ refl)
+returns-18 c = λ o. rw (c .before .before .enum-told18 .given .1, c .show15 .ensures, c .before .status-word .ensures) (shown-row _ _ _ FifoStatus _ refl)
 
 returns-19 : tie.Need-returns-19
-returns-19 c = rw (c .before .before .before .enum-told19 .given .1, c .show16 .ensures, c .before .ops-word .ensures, c .before .before .stage-of .ensures) (shown-row _ _ _ Ops _ refl)
+returns-19 c = λ o. rw (c .before .before .before .enum-told19 .given .1, c .show16 .ensures, c .before .ops-word .ensures, c .before .before .stage-of .ensures) (shown-row _ _ _ Ops _ refl)
 
 returns-20 : tie.Need-returns-20
-returns-20 c = rw (c .before .enum-told20 .given .1, c .show17 .ensures) (shown-row _ _ _ IbiConfig _ refl)
+returns-20 c = λ o. rw (c .before .enum-told20 .given .1, c .show17 .ensures) (shown-row _ _ _ IbiConfig _ refl)
 
 returns-21 : tie.Need-returns-21
-returns-21 c = rw (c .before .before .enum-told21 .given .1, c .show18 .ensures, c .before .device-word .ensures) (shown-row _ _ _ DevChar _ refl)
+returns-21 c = λ o. rw (c .before .before .enum-told21 .given .1, c .show18 .ensures, c .before .device-word .ensures) (shown-row _ _ _ DevChar _ refl)
 
 returns-22 : tie.Need-returns-22
-returns-22 c = rw (c .before .before .before .before .r .given .1, c .show19 .ensures, c .before .offload-word .ensures) (shown-row _ _ _ (OffloadCmd _) _ refl)
+returns-22 c = λ o. rw (c .before .before .before .before .r .given .1, c .show19 .ensures, c .before .offload-word .ensures) (shown-row _ _ _ (OffloadCmd _) _ refl)
 
 returns-23 : tie.Need-returns-23
-returns-23 c = rw (c .before .before .before .before .r2 .given .1, c .show20 .ensures, c .before .offload-word2 .ensures) (shown-row _ _ _ (OffloadSdo _) _ refl)
+returns-23 c = λ o. rw (c .before .before .before .before .r2 .given .1, c .show20 .ensures, c .before .offload-word2 .ensures) (shown-row _ _ _ (OffloadSdo _) _ refl)
 
 returns-24 : tie.Need-returns-24
-returns-24 c = rw (c .before .enum-told22 .given .1, c .refuse .ensures) (absent-row _ _ _)
+returns-24 c = λ o. rw (c .before .enum-told22 .given .1, c .refuse .ensures) (absent-row _ _ _)
 
 pub read-at-spec : {M : Type 1} → statement M
 read-at-spec =

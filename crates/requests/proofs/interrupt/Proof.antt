@@ -1,10 +1,9 @@
 -- `requests::interrupt` meets its contract.
-use Rattle.requests.proofs.Interrupts.{no-device, ibi-room, interrupts}
+use Rattle.requests.proofs.Interrupts.{ibi-room, interrupts}
 use Rattle.model.specs.Calls.{interrupt}
 use Rattle.answer.proofs.Laws.{ready-of, refused-by}
 use Rattle.answer.specs.Given.{view, tables}
 use lib.ListN.{getD}
-use native.Mathlib.Omega.{arith}
 use Prim.Native.Nat.{ℕ}
 use mathlib.Core.List.{List, []}
 use mathlib.Core.Path.{refl, ap, sym, _∙_}
@@ -12,36 +11,24 @@ use borrow.Author.Needs.{needs}
 use Rattle.requests.proofs.interrupt.Statement.{statement}
 use Rattle.requests.proofs.interrupt.Tie as tie
 
-refuse-requires : tie.Need-refuse-requires
-refuse-requires c κs = search needs
-
-returns : tie.Need-returns
-returns c =
-    let a = c .before .before .before in
-    let st = a .args .st in
-    let s = a .args .store .now in
-    let d = a .args .address in
-    let byte = a .args .byte in
-    λ t h. rw (c .refuse .ensures) (refused-by st t s (interrupt (view st t s) d byte) 18 (omega arith) (no-device (view st t s) d byte (c .before .if1 .taken)))
-
 element-copy-out-f : tie.Need-element-copy-out-f
 element-copy-out-f c = search needs
 
 interrupt-number-requires : tie.Need-interrupt-number-requires
 interrupt-number-requires c κs = search needs
 
-refuse-requires-2 : tie.Need-refuse-requires-2
-refuse-requires-2 c κs = search needs
+refuse-requires : tie.Need-refuse-requires
+refuse-requires c κs = search needs
 
-returns-2 : tie.Need-returns-2
-returns-2 c =
+returns : tie.Need-returns
+returns c =
     let n = c .before .before in
-    let a = n .before .before .before .before in
+    let a = n .before .before .before in
     let st = a .args .st in
     let s = a .args .store .now in
     let d = a .args .address in
     let byte = a .args .byte in
-    λ t h. rw (c .refuse2 .ensures) (refused-by st t s (interrupt (view st t s) d byte) _ (c .before .if2 .taken) (n .interrupt-number .ensures t s d byte (n .before .before .if1 .left) (sym (ap (λ (l : List ℕ). getD l d 0) h))))
+    λ t h. rw (c .refuse .ensures) (refused-by st t s (interrupt (view st t s) d byte) _ (c .before .if1 .taken) (n .interrupt-number .ensures t s d byte (sym (ap (λ (l : List ℕ). getD l d 0) h))))
 
 data-byte-requires : tie.Need-data-byte-requires
 data-byte-requires c κs = search needs
@@ -56,13 +43,13 @@ push-if-requires : tie.Need-push-if-requires
 push-if-requires c κs =
     let l = c .before .before .before .before .before in
     let n = l .before in
-    let a = n .before .before .before .before in
+    let a = n .before .before .before in
     let st = a .args .st in
     let s = a .args .store .now in
     let d = a .args .address in
     let byte = a .args .byte in
-    let t = tables (a .args .flags .now) [] [] in
-    (ready-of st s (a .pre) .ibi, (λ h. ibi-room (view st t s) d byte (sym (n .interrupt-number .ensures t s d byte (n .before .before .if1 .left) refl) ∙ l .if2 .left)), search needs)
+    let t = tables (a .args .flags .now) [] [] [] in
+    (ready-of st s (a .pre .0) .ibi, (λ h. ibi-room (view st t s) d byte (sym (n .interrupt-number .ensures t s d byte refl) ∙ l .if1 .left)), search needs)
 
 accept-requires : tie.Need-accept-requires
 accept-requires c κs = search needs
@@ -73,13 +60,13 @@ done-requires c κs = search needs
 same-length : tie.Need-same-length
 same-length c = search needs
 
-returns-3 : tie.Need-returns-3
-returns-3 c =
+returns-2 : tie.Need-returns-2
+returns-2 c =
     let p = c .before .before .before .before .before in
     let b = p .before .before .before in
     let e = b .before in
     let n = e .before .before .before in
-    let a = n .before .before .before .before in
+    let a = n .before .before .before in
     let st = a .args .st in
     let s = a .args .store .now in
     let d = a .args .address in
@@ -87,18 +74,16 @@ returns-3 c =
     λ t h.
     let f = sym (ap (λ (l : List ℕ). getD l d 0) h) in
     rw (c .done .ensures, c .before .accept .ensures, p .push-if .ensures .0, p .push-if .ensures .1, b .ibi-at .ensures, e .entry .ensures, e .before .data-byte .ensures, ← h)
-    (interrupts st t s d byte (sym (n .interrupt-number .ensures t s d byte (n .before .before .if1 .left) f) ∙ e .before .before .if2 .left))
+    (interrupts st t s d byte (sym (n .interrupt-number .ensures t s d byte f) ∙ e .before .before .if1 .left))
 
 pub interrupt-spec : {M : Type 1} → statement M
 interrupt-spec =
     tie.close
     (tie.spec
-    refuse-requires
-    returns
     element-copy-out-f
     interrupt-number-requires
-    refuse-requires-2
-    returns-2
+    refuse-requires
+    returns
     data-byte-requires
     entry-requires
     ibi-at-requires
@@ -106,4 +91,4 @@ interrupt-spec =
     accept-requires
     done-requires
     same-length
-    returns-3)
+    returns-2)

@@ -1,8 +1,8 @@
 -- `requests::request` meets its contract.
 use Rattle.requests.proofs.Addresses.{sdi-room, requests}
 use Rattle.model.specs.Calls.{request}
-use Rattle.answer.proofs.Laws.{ready-of, refused-by}
-use Rattle.answer.specs.Given.{view, tables}
+use Rattle.answer.proofs.Laws.{noTables, ready-of, refused-by}
+use Rattle.answer.specs.Given.{view}
 use mathlib.Core.List.{[]}
 use mathlib.Core.Path.{sym, _∙_}
 use borrow.Author.Needs.{needs}
@@ -40,7 +40,7 @@ push-two-requires c κs =
     let s = a .args .store .now in
     let v = a .args .v in
     let w = a .args .w in
-    let t = tables [] [] [] in
+    let t = noTables in
     (ready-of st s (a .pre) .sdi, sdi-room (view st t s) v w (sym (n .before .request-number .ensures t s v w) ∙ n .if1 .left), search needs)
 
 ask-requires : tie.Need-ask-requires

@@ -1,8 +1,8 @@
 -- `requests::take_address` meets its contract.
 use Rattle.requests.proofs.Addresses.{sdo-waits, takes}
 use Rattle.model.specs.Calls.{takeAddress}
-use Rattle.answer.proofs.Laws.{ready-of, refused-by}
-use Rattle.answer.specs.Given.{view, tables}
+use Rattle.answer.proofs.Laws.{noTables, ready-of, refused-by}
+use Rattle.answer.specs.Given.{view}
 use mathlib.Core.List.{[]}
 use mathlib.Core.Path.{sym, _∙_}
 use borrow.Author.Needs.{needs}
@@ -42,7 +42,7 @@ take-requires c κs =
     let a = n .before .before .before in
     let st = a .args .st in
     let s = a .args .store .now in
-    let t = tables [] [] [] in
+    let t = noTables in
     (ready-of st s (a .pre) .sdo, sdo-waits (view st t s) (sym (n .before .take-number .ensures t s) ∙ n .if1 .left))
 
 ask-requires : tie.Need-ask-requires

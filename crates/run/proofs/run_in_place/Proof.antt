@@ -134,7 +134,7 @@ module _ {M : Type 1} (𝓤 : URA M) (H : Heap 𝓤) (A : Atoms 𝓤) (W : Given
 
   -- what `run::run` ensures, at the store's last list
   abbrev Said : RunOut → List ℕ → Type 0
-  Said r zs = ranOut r zs ≡ runOf n ts (controller h ys)
+  Said r zs = ranOut r zs ≡ runOf n ts (controller h ys [])
 
   goes-step : Is B.the-row h (bank-val h ∷ []) → ent 𝓤 (⋆ 𝓤 H A ((‵ (flft κ′ q′) ⊛ (‵ (flft κ″ q″) ⊛ ‵ ftrue)) ∷ ‵ (MutSlice (named 0) κ′ u32 .own x (s ∷ [])) ∷ ‵ Own ∷ [])) (Step 𝓤 H A at-mem run .pre to-step)
   goes-step g =

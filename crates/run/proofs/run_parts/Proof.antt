@@ -10,20 +10,20 @@ use Rattle.answer.specs.Given.{bankWith, controller, tables}
 use Rattle.controller.specs.Faults.{faultNumber}
 use Rattle.controller.proofs.Guards.{kept}
 use Rattle.run.specs.Run.{course, begun, runFrom}
-use Rattle.run.proofs.Laws.{same-size, goes, stops, ends, starts}
+use Rattle.run.proofs.Laws.{same-size, same-output, goes, stops, ends, starts}
 use Rattle.run.proofs.run_parts.Statement.{statement}
 use Rattle.run.proofs.run_parts.Tie as tie
 
 abbrev Inv-loop : tie.InvT-loop
-Inv-loop flags₀ commands₀ payloads₀ store₀ fault calls n s₀ a₀ i₀ flags commands payloads store s a i =
-    (i ≤ n) × (n < 18446744073709551616) × (3 * n ≤ length calls) × (length store ≡ length store₀) × (fault ≡ faultNumber (bankWith s (tables flags commands payloads)) (length store))
-    × (runFrom (n - i) calls i (course i a (controller (bankWith s (tables flags commands payloads)) store)) ≡ runFrom n calls 0 (begun (controller (bankWith s₀ (tables flags₀ commands₀ payloads₀)) store₀)))
+Inv-loop flags₀ commands₀ payloads₀ store₀ output₀ fault calls n s₀ a₀ i₀ flags commands payloads store output s a i =
+    (i ≤ n) × (n < 18446744073709551616) × (3 * n ≤ length calls) × (length store ≡ length store₀) × (length output ≡ length output₀) × (fault ≡ faultNumber (bankWith s (tables flags commands payloads output)) (length store))
+    × (runFrom (n - i) calls i (course i a (controller (bankWith s (tables flags commands payloads output)) store output)) ≡ runFrom n calls 0 (begun (controller (bankWith s₀ (tables flags₀ commands₀ payloads₀ output₀)) store₀ output₀)))
 
 abbrev μ-loop : tie.MeasureT-loop
-μ-loop flags₀ commands₀ payloads₀ store₀ fault calls n s₀ a₀ i₀ flags commands payloads store s a i = n - i
+μ-loop flags₀ commands₀ payloads₀ store₀ output₀ fault calls n s₀ a₀ i₀ flags commands payloads store output s a i = n - i
 
 loop-holds : tie.Need-loop-holds Inv-loop μ-loop
-loop-holds c = (search needs, search needs, c .before .before .pre .1, refl, c .before .before .pre .0, starts _ _ _)
+loop-holds c = (search needs, search needs, c .before .before .before .pre .1, refl, refl, c .before .before .before .pre .0, starts _ _ _)
 
 entry-requires : tie.Need-entry-requires Inv-loop μ-loop
 entry-requires c κs = search needs
@@ -32,7 +32,7 @@ enum-known-c : tie.Need-enum-known-c Inv-loop μ-loop
 enum-known-c c = search needs
 
 step-parts-requires : tie.Need-step-parts-requires Inv-loop μ-loop
-step-parts-requires c κs = c .before .before .before .before .before .before .before .before .before .loop .inv .4
+step-parts-requires c κs = c .before .before .before .before .before .before .before .before .before .before .loop .inv .5
 
 enum-told : tie.Need-enum-told Inv-loop μ-loop
 enum-told c = search needs
@@ -40,16 +40,19 @@ enum-told c = search needs
 same-length : tie.Need-same-length Inv-loop μ-loop
 same-length c = search needs
 
+same-length-2 : tie.Need-same-length-2 Inv-loop μ-loop
+same-length-2 c = search needs
+
 returns : tie.Need-returns Inv-loop μ-loop
 returns c =
     let l = c .before .before .before .before .loop in
-    let a = c .before .before .before .before .before .before .before .args in
-    stops (a .n) (l .i) (a .calls .now) (l .a) (controller (bankWith (l .s) (tables (l .flags) (l .commands) (l .payloads))) (l .store)) (c .before .before .before .loop-test .taken) (sym (c .before .before .entry .ensures) ∙ c .enum-told .given .1) ∙ l .inv .5
+    let a = c .before .before .before .before .before .before .before .before .args in
+    stops (a .n) (l .i) (a .calls .now) (l .a) (controller (bankWith (l .s) (tables (l .flags) (l .commands) (l .payloads) (l .output))) (l .store) (l .output)) (c .before .before .before .loop-test .taken) (sym (c .before .before .entry .ensures) ∙ c .enum-told .given .1) ∙ l .inv .6
 
 add-i : tie.Need-add-i Inv-loop μ-loop
 add-i c =
-    let l = c .before .before .before .before .before .before .before .before .before .before .before .before .before .before .loop in
-    let h : l .i < c .before .before .before .before .before .before .before .before .before .before .before .before .before .before .before .before .before .args .n = c .before .before .before .before .before .before .before .before .before .before .before .before .before .loop-test .taken in
+    let l = c .before .before .before .before .before .before .before .before .before .before .before .before .before .before .before .before .before .loop in
+    let h : l .i < c .before .before .before .before .before .before .before .before .before .before .before .before .before .before .before .before .before .before .before .before .before .args .n = c .before .before .before .before .before .before .before .before .before .before .before .before .before .before .before .before .loop-test .taken in
     let k = l .inv .1 in
     search needs
 
@@ -58,31 +61,35 @@ loop-less c = search needs
 
 loop-again : tie.Need-loop-again Inv-loop μ-loop
 loop-again c =
-    let l = c .before .before .before .before .before .before .before .before .before .before .before .before .before .before .loop in
-    let a = c .before .before .before .before .before .before .before .before .before .before .before .before .before .before .before .before .before .args in
-    let b = bankWith (l .s) (tables (l .flags) (l .commands) (l .payloads)) in
-    let m = c .before .before .before .before .before .before .before .before .before .before .c .given in
-    let y = c .before .before .before .before .step-parts in
-    let h : l .i < a .n = c .before .before .before .before .before .before .before .before .before .before .before .before .before .loop-test .taken in (
+    let l = c .before .before .before .before .before .before .before .before .before .before .before .before .before .before .before .before .before .loop in
+    let a = c .before .before .before .before .before .before .before .before .before .before .before .before .before .before .before .before .before .before .before .before .before .args in
+    let b = bankWith (l .s) (tables (l .flags) (l .commands) (l .payloads) (l .output)) in
+    let m = c .before .before .before .before .before .before .before .before .before .before .before .before .before .c .given in
+    let y = c .before .before .before .before .before .before .step-parts in
+    let h : l .i < a .n = c .before .before .before .before .before .before .before .before .before .before .before .before .before .before .before .before .loop-test .taken in (
       omega (arith, h),
       l .inv .1,
       l .inv .2,
-      ap (λ (x : Step Controller). length (x .next .store)) (y .ensures) ∙ same-size (controller b (l .store)) (m .0 .0) ∙ l .inv .3,
-      l .inv .4 ∙ sym (kept b (l .store) (m .0 .0)) ∙ ap (λ (x : Step Controller). faultNumber (x .next .bank) (length (x .next .store))) (sym (y .ensures)),
+      ap (λ (x : Step Controller). length (x .next .store)) (y .ensures) ∙ same-size (controller b (l .store) (l .output)) (m .0 .0) ∙ l .inv .3,
+      ap (λ (x : Step Controller). length (x .next .output)) (y .ensures) ∙ same-output (controller b (l .store) (l .output)) (m .0 .0) ∙ l .inv .4,
+      l .inv .5 ∙ sym (kept b (l .store) (l .output) (m .0 .0)) ∙ ap (λ (x : Step Controller). faultNumber (x .next .bank) (length (x .next .store))) (sym (y .ensures)),
       ap (λ (x : Step Controller). runFrom (a .n - (l .i + 1)) (a .calls .now) (l .i + 1) (course (l .i + 1) (x .answer) (x .next))) (y .ensures)
-          ∙ goes (a .n) (l .i) (a .calls .now) (l .a) (controller b (l .store)) (m .0 .0) h (sym (c .before .before .before .before .before .before .before .before .before .before .before .before .entry .ensures) ∙ m .1) ∙ l .inv .5,
+          ∙ goes (a .n) (l .i) (a .calls .now) (l .a) (controller b (l .store) (l .output)) (m .0 .0) h (sym (c .before .before .before .before .before .before .before .before .before .before .before .before .before .before .before .entry .ensures) ∙ m .1) ∙ l .inv .6,
     )
 
-same-length-2 : tie.Need-same-length-2 Inv-loop μ-loop
-same-length-2 c = search needs
+same-length-3 : tie.Need-same-length-3 Inv-loop μ-loop
+same-length-3 c = search needs
+
+same-length-4 : tie.Need-same-length-4 Inv-loop μ-loop
+same-length-4 c = search needs
 
 returns-2 : tie.Need-returns-2 Inv-loop μ-loop
 returns-2 c =
     let l = c .before .loop in
-    let a = c .before .before .before .before .args in
+    let a = c .before .before .before .before .before .args in
     let e : l .i ≡ a .n = omega (arith, l .inv .0, c .loop-test .left) in
-    ap (λ (k : ℕ). course k (l .a) (controller (bankWith (l .s) (tables (l .flags) (l .commands) (l .payloads))) (l .store))) (sym e)
-    ∙ ends (a .n) (l .i) (a .calls .now) (l .a) (controller (bankWith (l .s) (tables (l .flags) (l .commands) (l .payloads))) (l .store)) (c .loop-test .left) ∙ l .inv .5
+    ap (λ (k : ℕ). course k (l .a) (controller (bankWith (l .s) (tables (l .flags) (l .commands) (l .payloads) (l .output))) (l .store) (l .output))) (sym e)
+    ∙ ends (a .n) (l .i) (a .calls .now) (l .a) (controller (bankWith (l .s) (tables (l .flags) (l .commands) (l .payloads) (l .output))) (l .store) (l .output)) (c .loop-test .left) ∙ l .inv .6
 
 pub run-parts-spec : {M : Type 1} → statement M
 run-parts-spec =
@@ -96,9 +103,11 @@ run-parts-spec =
     step-parts-requires
     enum-told
     same-length
+    same-length-2
     returns
     add-i
     loop-less
     loop-again
-    same-length-2
+    same-length-3
+    same-length-4
     returns-2)

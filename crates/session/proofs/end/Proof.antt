@@ -5,6 +5,9 @@ use borrow.Author.Needs.{needs}
 use Rattle.session.proofs.end.Statement.{statement}
 use Rattle.session.proofs.end.Tie as tie
 
+slice-aggregate-end-line : tie.Need-slice-aggregate-end-line
+slice-aggregate-end-line c = search needs
+
 end-line-requires : tie.Need-end-line-requires
 end-line-requires c κs = search needs
 
@@ -12,7 +15,7 @@ slice-reshare-prefix-write-all : tie.Need-slice-reshare-prefix-write-all
 slice-reshare-prefix-write-all c = search needs
 
 slice-aggregate-write-all : tie.Need-slice-aggregate-write-all
-slice-aggregate-write-all c = simp length-take (omega (arith, c .before .before .before .before .before .end-line .ensures .1))
+slice-aggregate-write-all c = simp length-take (omega (arith, c .before .before .before .before .before .before .end-line .ensures .1))
 
 write-all-requires : tie.Need-write-all-requires
 write-all-requires c κs = search needs
@@ -30,6 +33,7 @@ pub end-spec : {M : Type 1} → statement M
 end-spec =
     tie.close
     (tie.spec
+    slice-aggregate-end-line
     end-line-requires
     slice-reshare-prefix-write-all
     slice-aggregate-write-all

@@ -20,11 +20,14 @@ slice-aggregate-count c = search needs
 count-requires : tie.Need-count-requires
 count-requires c κs = search needs
 
+slice-aggregate-feed : tie.Need-slice-aggregate-feed
+slice-aggregate-feed c = search needs
+
 array-share-prefix-piece : tie.Need-array-share-prefix-piece
 array-share-prefix-piece c = search needs
 
-slice-aggregate-feed : tie.Need-slice-aggregate-feed
-slice-aggregate-feed c = search needs
+slice-aggregate-feed-2 : tie.Need-slice-aggregate-feed-2
+slice-aggregate-feed-2 c = search needs
 
 feed-requires : tie.Need-feed-requires
 feed-requires c κs = search needs
@@ -33,7 +36,7 @@ slice-reshare-prefix-write-all : tie.Need-slice-reshare-prefix-write-all
 slice-reshare-prefix-write-all c = search needs
 
 slice-aggregate-write-all : tie.Need-slice-aggregate-write-all
-slice-aggregate-write-all c = simp length-take (omega (arith, c .before .before .before .before .before .feed .ensures .1))
+slice-aggregate-write-all c = simp length-take (omega (arith, c .before .before .before .before .before .before .feed .ensures .1))
 
 write-all-requires : tie.Need-write-all-requires
 write-all-requires c κs = search needs
@@ -56,8 +59,9 @@ turn-spec =
     returns
     slice-aggregate-count
     count-requires
-    array-share-prefix-piece
     slice-aggregate-feed
+    array-share-prefix-piece
+    slice-aggregate-feed-2
     feed-requires
     slice-reshare-prefix-write-all
     slice-aggregate-write-all

@@ -8,11 +8,11 @@ use Rattle.timing_each.proofs.run_each.Statement.{statement}
 use Rattle.timing_each.proofs.run_each.Tie as tie
 
 abbrev Inv-loop : tie.InvT-loop
-Inv-loop cap store₀ calls last bank₀ a₀ made₀ i₀ i-end store bank a made i =
-    (i ≤ i-end) × (3 * i-end ≤ length calls) × (i-end < 18446744073709551616) × (length store ≡ length store₀)
+Inv-loop cap store₀ calls last bank₀ a₀ made₀ none₀ i₀ i-end store bank a made none i =
+    (i ≤ i-end) × (3 * i-end ≤ length calls) × (i-end < 18446744073709551616) × (length store ≡ length store₀) × (length none ≡ 0)
 
 abbrev μ-loop : tie.MeasureT-loop
-μ-loop cap store₀ calls last bank₀ a₀ made₀ i₀ i-end store bank a made i = i-end - i
+μ-loop cap store₀ calls last bank₀ a₀ made₀ none₀ i₀ i-end store bank a made none i = i-end - i
 
 fresh-requires : tie.Need-fresh-requires Inv-loop μ-loop
 fresh-requires c κs = search needs
@@ -32,27 +32,30 @@ enum-told c = search needs
 add-made : tie.Need-add-made Inv-loop μ-loop
 add-made c = search needs
 
+slice-aggregate-step-once : tie.Need-slice-aggregate-step-once Inv-loop μ-loop
+slice-aggregate-step-once c = search needs
+
 step-once-requires : tie.Need-step-once-requires Inv-loop μ-loop
 step-once-requires c κs = search needs
 
 add-i : tie.Need-add-i Inv-loop μ-loop
 add-i c =
-    let l = c .before .before .before .before .before .before .before .before .before .before .before .loop in
-    let h : l .i < length (c .before .before .before .before .before .before .before .before .before .before .before .before .before .before .before .before .args .calls .now) / 3 = c .before .before .before .before .before .before .before .before .before .before .loop-test .taken in
+    let l = c .before .before .before .before .before .before .before .before .before .before .before .before .before .loop in
+    let h : l .i < length (c .before .before .before .before .before .before .before .before .before .before .before .before .before .before .before .before .before .before .args .calls .now) / 3 = c .before .before .before .before .before .before .before .before .before .before .before .before .loop-test .taken in
     let k = l .inv in
     search needs
 
 loop-less : tie.Need-loop-less Inv-loop μ-loop
 loop-less c =
-    let l = c .before .before .before .before .before .before .before .before .before .before .before .loop in
-    let h : l .i < length (c .before .before .before .before .before .before .before .before .before .before .before .before .before .before .before .before .args .calls .now) / 3 = c .before .before .before .before .before .before .before .before .before .before .loop-test .taken in
+    let l = c .before .before .before .before .before .before .before .before .before .before .before .before .before .loop in
+    let h : l .i < length (c .before .before .before .before .before .before .before .before .before .before .before .before .before .before .before .before .before .before .args .calls .now) / 3 = c .before .before .before .before .before .before .before .before .before .before .before .before .loop-test .taken in
     let k = l .inv in
     search needs
 
 loop-again : tie.Need-loop-again Inv-loop μ-loop
 loop-again c =
-    let l = c .before .before .before .before .before .before .before .before .before .before .before .loop in
-    let h : l .i < length (c .before .before .before .before .before .before .before .before .before .before .before .before .before .before .before .before .args .calls .now) / 3 = c .before .before .before .before .before .before .before .before .before .before .loop-test .taken in
+    let l = c .before .before .before .before .before .before .before .before .before .before .before .before .before .loop in
+    let h : l .i < length (c .before .before .before .before .before .before .before .before .before .before .before .before .before .before .before .before .before .before .args .calls .now) / 3 = c .before .before .before .before .before .before .before .before .before .before .before .before .loop-test .taken in
     let k = l .inv in
     search needs
 
@@ -83,6 +86,7 @@ run-each-spec =
     enum-known-named
     enum-told
     add-made
+    slice-aggregate-step-once
     step-once-requires
     add-i
     loop-less

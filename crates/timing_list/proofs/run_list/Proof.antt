@@ -1,6 +1,7 @@
 -- `timing_list::run_list` meets its contract.
 use Prim.Native.Nat.{_%_, _^_}
 use mathlib.Core.Path.{ap, _∙_}
+use mathlib.Core.List.{[]}
 use lib.ListN.{length}
 use Rattle.bank.specs.declared.Bank.{Bank}
 use Rattle.answer.specs.Given.{controller}
@@ -31,7 +32,7 @@ same-length-2 c = search needs
 returns : tie.Need-returns
 returns c =
     let a = c .before .before .before .before .before .before .before .before .before .before .before .before .before .before .args in
-    let e = c .before .before .before .before .before .before .before .before .run-once .ensures ∙ ap (λ (b : Bank). runOf (length (a .calls .now)) (a .calls .now) (controller b (a .store .now))) (c .before .before .before .before .before .before .before .before .before .before .fresh .ensures) in
+    let e = c .before .before .before .before .before .before .before .before .run-once .ensures ∙ ap (λ (b : Bank). runOf (length (a .calls .now)) (a .calls .now) (controller b (a .store .now) [])) (c .before .before .before .before .before .before .before .before .before .before .fresh .ensures) in
     (ap (λ (x : Course). x .count % 2 ^ 32) e, ap (λ (x : Course). x .left .store) e, c .before .before .before .keep .ensures ∙ ap (λ (x : Course). keptIn (a .last .now) (x .answer)) e)
 
 pub run-list-spec : {M : Type 1} → statement M

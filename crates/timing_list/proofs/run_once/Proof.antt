@@ -129,7 +129,7 @@ module _ {M : Type 1} (𝓤 : URA M) (H : Heap 𝓤) (A : Atoms 𝓤) (W : Given
   to-ran ν l δ = (((ν ∷ [], (κ, (κ′, tt))), (fullShare, (q, (q′, tt))), tt, (loan l δ, (x, (y, (n, tt)))), (vptr l 0 ∷ [], (s ∷ [], (s″ ∷ [], (vint w64 n ∷ [], tt))))), tt)
 
   abbrev Said : Made → Bank → List ℕ → Type 0
-  Said r z zs = ranPlace z r zs ≡ runOf n ts (controller h ys)
+  Said r z zs = ranPlace z r zs ≡ runOf n ts (controller h ys [])
 
   goes-ran : (ν l : ℕ) (δ : GName) → ent 𝓤 (⋆ 𝓤 H A ((‵ (flft (ν ∷ []) fullShare) ⊛ (‵ (flft κ q) ⊛ (‵ (flft κ′ q′) ⊛ ‵ ftrue))) ∷ ‵ (MutRef (named 0) (ν ∷ []) B.the-row .own (loan l δ) (vptr l 0 ∷ [])) ∷ (‵ (MutSlice (named 1) κ u32 .own x (s ∷ [])) ⊛ ‵ Own) ∷ [])) (Ran 𝓤 H A at-mem run .pre (to-ran ν l δ))
   goes-ran ν l δ =

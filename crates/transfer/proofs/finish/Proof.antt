@@ -30,8 +30,7 @@ is-padded-requires c κs = search needs
 receipt-requires : tie.Need-receipt-requires
 receipt-requires c κs = let a = c .before .before .before .before .before in
     let st = a .args .st in
-    let s = a .args .store .now in
-    ((finishes (view st noTables s) (a .args .code) (sym (c .before .before .before .finish-number .ensures noTables s) ∙ c .before .before .if1 .left)) .coded, rw (c .before .transfer-of .ensures) (moved-small (st .phase) (a .pre .phase)))
+    (a .pre .2, rw (c .before .transfer-of .ensures) (moved-small (st .phase) (a .pre .1)))
 
 cmdr-at-requires : tie.Need-cmdr-at-requires
 cmdr-at-requires c κs = search needs
@@ -43,13 +42,13 @@ push-if-requires : tie.Need-push-if-requires
 push-if-requires c κs = let a = c .before .before .before .before .before .before .before .before .before .before in
     let st = a .args .st in
     let s = a .args .store .now in
-    (ready-of st s (a .pre) .cmdr, (λ _. (finishes (view st noTables s) (a .args .code) (sym (c .before .before .before .before .before .before .before .before .finish-number .ensures noTables s) ∙ c .before .before .before .before .before .before .before .if1 .left)) .receipts), (let r = ready-of st s (a .pre) .size in rw (c .before .before .before .cmdr-at .ensures) (omega (arith, r))))
+    (ready-of st s (a .pre .0) .cmdr, (λ _. (finishes (view st noTables s) (a .args .code) (sym (c .before .before .before .before .before .before .before .before .finish-number .ensures noTables s) ∙ c .before .before .before .before .before .before .before .if1 .left)) .receipts), (let r = ready-of st s (a .pre .0) .size in rw (c .before .before .before .cmdr-at .ensures) (omega (arith, r))))
 
 push-if-requires-2 : tie.Need-push-if-requires-2
 push-if-requires-2 c κs = let a = c .before .before .before .before .before .before .before .before .before .before .before .before .before .before in
     let st = a .args .st in
     let s = a .args .store .now in
-    (ready-of st s (a .pre) .sdi, (λ h. (finishes (view st noTables s) (a .args .code) (sym (c .before .before .before .before .before .before .before .before .before .before .before .before .finish-number .ensures noTables s) ∙ c .before .before .before .before .before .before .before .before .before .before .before .if1 .left)) .words (sym (c .before .before .before .before .before .before .before .before .before .is-padded .ensures) ∙ h)), (let r = ready-of st s (a .pre) .size in search needs))
+    (ready-of st s (a .pre .0) .sdi, (λ h. (finishes (view st noTables s) (a .args .code) (sym (c .before .before .before .before .before .before .before .before .before .before .before .before .finish-number .ensures noTables s) ∙ c .before .before .before .before .before .before .before .before .before .before .before .if1 .left)) .words (sym (c .before .before .before .before .before .before .before .before .before .is-padded .ensures) ∙ h)), (let r = ready-of st s (a .pre .0) .size in search needs))
 
 counted-requires : tie.Need-counted-requires
 counted-requires c κs = search needs

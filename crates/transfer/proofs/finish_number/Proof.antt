@@ -25,12 +25,9 @@ select-requires-3 c κs = search needs
 select-requires-4 : tie.Need-select-requires-4
 select-requires-4 c κs = search needs
 
-select-requires-5 : tie.Need-select-requires-5
-select-requires-5 c κs = search needs
-
 returns : tie.Need-returns
 unfolding finish
-returns c = λ t s. rw (c .select5 .ensures, c .before .select4 .ensures, c .before .before .select3 .ensures, c .before .before .before .select2 .ensures, c .before .before .before .before .select .ensures, c .before .before .before .before .before .before .before .before .before .is-padded .ensures, c .before .before .before .before .before .before .before .before .before .before .is-allowed .ensures, c .before .before .before .before .before .before .before .before .before .before .before .stage-of .ensures)
+returns c = λ t s. rw (c .select4 .ensures, c .before .select3 .ensures, c .before .before .select2 .ensures, c .before .before .before .select .ensures, c .before .before .before .before .before .before .before .before .is-padded .ensures, c .before .before .before .before .before .before .before .before .before .is-allowed .ensures, c .before .before .before .before .before .before .before .before .before .before .stage-of .ensures)
 
 pub finish-number-spec : {M : Type 1} → statement M
 finish-number-spec =
@@ -43,5 +40,4 @@ finish-number-spec =
     select-requires-2
     select-requires-3
     select-requires-4
-    select-requires-5
     returns)

@@ -24,7 +24,7 @@ returns : tie.Need-returns
 returns c = let a = c .before .before .before .before .before .before in
     let st = a .args .st in
     let s = a .args .store .now in
-    λ c′ p. let t = tables (a .args .flags .now) c′ p in rw (c .refuse .ensures) (refused-by st t s (start (view st t s)) _ (c .before .if1 .taken) (c .before .before .start-number .ensures t s (c .before .before .before .before .cmd-word .ensures) (c .before .before .before .cmd-word2 .ensures)))
+    λ c′ p o. let t = tables (a .args .flags .now) c′ p o in rw (c .refuse .ensures) (refused-by st t s (start (view st t s)) _ (c .before .if1 .taken) (c .before .before .start-number .ensures t s (c .before .before .before .before .cmd-word .ensures) (c .before .before .before .cmd-word2 .ensures)))
 
 kind-of-requires : tie.Need-kind-of-requires
 kind-of-requires c κs = search needs
@@ -51,7 +51,7 @@ returns-2 : tie.Need-returns-2
 returns-2 c = let a = c .before .before .before .before .before .before .before .before .before .before .before .before .before .before in
     let st = a .args .st in
     let s = a .args .store .now in
-    λ c′ p. let t = tables (a .args .flags .now) c′ p in rw (c .done .ensures, c .before .before .before .take .ensures, c .before .before .before .before .select .ensures, c .before .before .before .before .before .before .begun-by .ensures, c .before .before .before .before .before .before .before .is-attached .ensures, c .before .before .before .before .before .before .before .before .kind-of .ensures, c .before .before .before .before .before .before .before .before .before .before .before .cmd-word2 .ensures, c .before .before .before .before .before .before .before .before .before .before .before .before .cmd-word .ensures) (started st t s (sym (c .before .before .before .before .before .before .before .before .before .before .start-number .ensures t s (c .before .before .before .before .before .before .before .before .before .before .before .before .cmd-word .ensures) (c .before .before .before .before .before .before .before .before .before .before .before .cmd-word2 .ensures)) ∙ c .before .before .before .before .before .before .before .before .before .if1 .left))
+    λ c′ p o. let t = tables (a .args .flags .now) c′ p o in rw (c .done .ensures, c .before .before .before .take .ensures, c .before .before .before .before .select .ensures, c .before .before .before .before .before .before .begun-by .ensures, c .before .before .before .before .before .before .before .is-attached .ensures, c .before .before .before .before .before .before .before .before .kind-of .ensures, c .before .before .before .before .before .before .before .before .before .before .before .cmd-word2 .ensures, c .before .before .before .before .before .before .before .before .before .before .before .before .cmd-word .ensures) (started st t s (sym (c .before .before .before .before .before .before .before .before .before .before .start-number .ensures t s (c .before .before .before .before .before .before .before .before .before .before .before .before .cmd-word .ensures) (c .before .before .before .before .before .before .before .before .before .before .before .cmd-word2 .ensures)) ∙ c .before .before .before .before .before .before .before .before .before .if1 .left))
 
 pub start-spec : {M : Type 1} → statement M
 start-spec =

@@ -1,4 +1,4 @@
--- `trial::feed` is safe and ends, and fills at most the output: a line a byte.
+-- `trial::feed` is safe and ends, and fills at most the text: a line a byte.
 use borrow.Author.Needs.{needs}
 use Prim.Native.Nat.{_-_, _*_, _≤_, _<_}
 use native.Mathlib.Omega.{arith}
@@ -8,12 +8,12 @@ use Rattle.trial.proofs.feed.Statement.{statement}
 use Rattle.trial.proofs.feed.Tie as tie
 
 abbrev Inv-loop : tie.InvT-loop
-Inv-loop store₀ piece out₀ bank₀ so-far₀ count₀ i₀ i-end store out bank so-far count i =
+Inv-loop store₀ piece out₀ after₀ so-far₀ count₀ i₀ i-end store out after so-far count i =
     (i ≤ i-end) × (i-end < 18446744073709551616) × (i-end ≡ length piece) × (count ≤ 12 * i)
     × (12 * length piece ≤ length out) × (length out ≡ length out₀) × (length store ≡ length store₀)
 
 abbrev μ-loop : tie.MeasureT-loop
-μ-loop store₀ piece out₀ bank₀ so-far₀ count₀ i₀ i-end store out bank so-far count i = i-end - i
+μ-loop store₀ piece out₀ after₀ so-far₀ count₀ i₀ i-end store out after so-far count i = i-end - i
 
 loop-holds : tie.Need-loop-holds Inv-loop μ-loop
 loop-holds c = search needs

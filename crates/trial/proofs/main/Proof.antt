@@ -6,10 +6,10 @@ use Rattle.trial.proofs.main.Statement.{statement}
 use Rattle.trial.proofs.main.Tie as tie
 
 abbrev Inv-loop : tie.InvT-loop
-Inv-loop store₀ out₀ bank₀ line₀ written₀ more₀ turns₀ store out bank line written more turns = (65536 ≡ length out) × (5120 ≡ length store)
+Inv-loop store₀ out₀ board₀ line₀ written₀ more₀ turns₀ store out board line written more turns = (65536 ≡ length out) × (5120 ≡ length store)
 
 abbrev μ-loop : tie.MeasureT-loop
-μ-loop store₀ out₀ bank₀ line₀ written₀ more₀ turns₀ store out bank line written more turns = turns
+μ-loop store₀ out₀ board₀ line₀ written₀ more₀ turns₀ store out board line written more turns = turns
 
 large-buffer-requires : tie.Need-large-buffer-requires Inv-loop μ-loop
 large-buffer-requires c κs = search needs

@@ -2,7 +2,7 @@
 use borrow.Author.Tests.{eq-eqb, ne-eqb}
 use mathlib.Core.Path.{_≡_}
 use mathlib.Core.Bool.{true, false}
-use Rattle.model.specs.View.{bit}
+use Rattle.bank.specs.Bits.{bit}
 use borrow.Author.Needs.{needs}
 use Rattle.write.proofs.put_flags.Statement.{statement}
 use Rattle.write.proofs.put_flags.Tie as tie

@@ -1,5 +1,5 @@
 -- `write::put_word` meets its contract.
-use Rattle.write.proofs.Rows.{set-past}
+use Rattle.answer.proofs.Laws.{set-past}
 use mathlib.Core.Path.{sym}
 use borrow.Author.Needs.{needs}
 use Rattle.write.proofs.put_word.Statement.{statement}

@@ -8,7 +8,7 @@ use Rattle.registers.specs.declared.Register.the-variants.{CmdFifo}
 use Rattle.model.specs.Decision.{QueueOp, keep, push}
 use Rattle.model.specs.Rings.{area, onRing, onStore}
 use Rattle.answer.specs.Given.{given, doneNext}
-use Rattle.write.proofs.Rows.{pushed-row, has-room}
+use Rattle.write.proofs.Rows.{made-row, has-room}
 use Rattle.write.proofs.write_cmd.Statement.{statement}
 use Rattle.write.proofs.write_cmd.Tie as tie
 
@@ -32,7 +32,7 @@ returns c =
     let a = c .before .before .before .before .before .before .before .before .before .before .args in
     let q = a .st .queues in
     let op : Bool → QueueOp = λ k. cond k (push (a .v)) keep in
-    λ t. rw (c .done .ensures, c .before .before .before .before .before .push-if .ensures .0, c .before .before .before .before .before .push-if .ensures .1) (pushed-row (a .st) t (a .store .now) CmdFifo (a .v) (λ n k. given (doneNext (record { cmd = onRing (op k) (q .cmd); cmdr = q .cmdr; sdo = q .sdo; sdi = q .sdi; ibi = q .ibi }) (a .st .regs) (a .st .control) (a .st .phase) 0 n) t (onStore (op k) (area (q .cmd) 0) (a .store .now))) _ refl (c .before .before .before .before .before .before .before .before .push-number .ensures) refl (λ m. refl))
+    λ t. rw (c .done .ensures, c .before .before .before .before .before .push-if .ensures .0, c .before .before .before .before .before .push-if .ensures .1) (made-row (a .st) t (a .store .now) CmdFifo (a .v) (λ n k. given (doneNext (record { cmd = onRing (op k) (q .cmd); cmdr = q .cmdr; sdo = q .sdo; sdi = q .sdi; ibi = q .ibi }) (a .st .regs) (a .st .control) (a .st .phase) 0 n) t (onStore (op k) (area (q .cmd) 0) (a .store .now))) _ refl (c .before .before .before .before .before .before .before .before .push-number .ensures) refl (λ m. refl))
 
 pub write-cmd-spec : {M : Type 1} → statement M
 write-cmd-spec =

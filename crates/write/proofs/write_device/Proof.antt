@@ -21,7 +21,7 @@ returns : tie.Need-returns
 unfolding onRing onStore
 returns c =
     let a = c .before .before .before .before .args in
-    λ m p s. rw (c .put-regs .ensures, c .before .before .put-flags .ensures) (served-row (a .st) (tables (a .flags .now) m p) s DevChar (a .v) refl refl)
+    λ m p o s. rw (c .put-regs .ensures, c .before .before .put-flags .ensures) (served-row (a .st) (tables (a .flags .now) m p o) s DevChar (a .v) refl refl)
 
 pub write-device-spec : {M : Type 1} → statement M
 write-device-spec = tie.close (tie.spec put-flags-requires cast-g put-regs-requires returns)

@@ -9,7 +9,7 @@ use Rattle.registers.specs.declared.Register.the-variants.{SdoFifo}
 use Rattle.model.specs.Decision.{QueueOp, keep, push}
 use Rattle.model.specs.Rings.{area, onRing, onStore}
 use Rattle.answer.specs.Given.{given, doneNext}
-use Rattle.write.proofs.Rows.{pushed-row, has-room}
+use Rattle.write.proofs.Rows.{made-row, has-room}
 use Rattle.write.proofs.write_sdo.Statement.{statement}
 use Rattle.write.proofs.write_sdo.Tie as tie
 
@@ -38,7 +38,7 @@ returns c =
     let r = a .st .control in
     let op : Bool → QueueOp = λ k. cond k (push (a .v)) keep in
     let at = c .before .before .before .before .before .before .before .before .before .sdo-at .ensures in
-    λ t. rw (c .done .ensures, c .before .before .before .before .before .before .push-if .ensures .0, c .before .before .before .before .before .before .push-if .ensures .1 ∙ ap (λ (base : ℕ). onStore (op (eqb (c .before .before .before .before .before .before .before .before .before .before .push-number .result) 0)) (area (q .sdo) base) (a .store .now)) at) (pushed-row (a .st) t (a .store .now) SdoFifo (a .v) (λ n k. given (doneNext (record { cmd = q .cmd; cmdr = q .cmdr; sdo = onRing (op k) (q .sdo); sdi = q .sdi; ibi = q .ibi }) (a .st .regs) (record { held = r .held; sync = r .sync; ibisync = r .ibisync; cmdrpending = r .cmdrpending; ibipending = r .ibipending; daapending = not k && r .daapending }) (a .st .phase) 0 n) t (onStore (op k) (area (q .sdo) (q .cmd .cap .0 + q .cmdr .cap .0)) (a .store .now))) _ refl (c .before .before .before .before .before .before .before .before .before .before .push-number .ensures) refl (λ m. refl))
+    λ t. rw (c .done .ensures, c .before .before .before .before .before .before .push-if .ensures .0, c .before .before .before .before .before .before .push-if .ensures .1 ∙ ap (λ (base : ℕ). onStore (op (eqb (c .before .before .before .before .before .before .before .before .before .before .push-number .result) 0)) (area (q .sdo) base) (a .store .now)) at) (made-row (a .st) t (a .store .now) SdoFifo (a .v) (λ n k. given (doneNext (record { cmd = q .cmd; cmdr = q .cmdr; sdo = onRing (op k) (q .sdo); sdi = q .sdi; ibi = q .ibi }) (a .st .regs) (record { held = r .held; sync = r .sync; ibisync = r .ibisync; cmdrpending = r .cmdrpending; ibipending = r .ibipending; daapending = not k && r .daapending; burst = r .burst }) (a .st .phase) 0 n) t (onStore (op k) (area (q .sdo) (q .cmd .cap .0 + q .cmdr .cap .0)) (a .store .now))) _ refl (c .before .before .before .before .before .before .before .before .before .before .push-number .ensures) refl (λ m. refl))
 
 pub write-sdo-spec : {M : Type 1} → statement M
 write-sdo-spec =

@@ -3,7 +3,7 @@
 
 use crate::demand::clause::{Clause, ALL_CLAUSES};
 use crate::demand::judge;
-use crate::lines::{parse_line, run_session, Mode};
+use crate::lines::{parse_line, run_session, Mode, Request};
 
 pub const RELEASE: &str = "W 0040 00000000";
 pub const RESET: &str = "W 0040 00000001";
@@ -23,23 +23,30 @@ pub struct Row {
 #[derive(Clone, Debug)]
 pub struct Session {
     pub rows: Vec<Row>,
+    mode: Mode,
 }
 
 impl Session {
     /// The engine's answers to the lines.
     pub fn run(lines: &[String]) -> Session {
+        Session::run_in(Mode::Session, lines)
+    }
+
+    pub fn run_in(mode: Mode, lines: &[String]) -> Session {
         let mut output = Vec::new();
-        run_session(lines.join("\n").as_bytes(), &mut output, Mode::Session).unwrap();
+        run_session(lines.join("\n").as_bytes(), &mut output, mode).unwrap();
         let output = String::from_utf8(output).unwrap();
         let mut answers = output.lines().map(str::to_string);
         let rows = lines
             .iter()
             .map(|line| Row {
                 line: line.clone(),
-                answer: parse_line(line.as_bytes(), Mode::Session).map(|_| answers.next().unwrap()),
+                answer: parse_line(line.as_bytes(), mode)
+                    .filter(Request::has_answer)
+                    .map(|_| answers.next().unwrap()),
             })
             .collect();
-        Session { rows }
+        Session { rows, mode }
     }
 
     pub fn lines(&self) -> Vec<String> {
@@ -108,7 +115,7 @@ impl Session {
     pub fn broken(&self) -> Vec<(Clause, usize)> {
         let script = self.script();
         let answers = self.answers();
-        let findings = judge(script.as_bytes(), answers.as_bytes()).unwrap();
+        let findings = judge(script.as_bytes(), answers.as_bytes(), self.mode).unwrap();
         let violated = ALL_CLAUSES.iter().filter_map(|clause| {
             let violation = findings.violation(*clause)?;
             Some((*clause, violation.line as usize - 1))

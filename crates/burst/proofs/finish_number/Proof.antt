@@ -1,0 +1,47 @@
+-- `burst::finish_number` meets its contract.
+use Rattle.model.specs.Bursts.{burstFinish}
+use Rattle.burst.proofs.Laws.{short-is}
+use borrow.Author.Needs.{needs}
+use Rattle.burst.proofs.finish_number.Statement.{statement}
+use Rattle.burst.proofs.finish_number.Tie as tie
+
+stage-of-requires : tie.Need-stage-of-requires
+stage-of-requires c κs = search needs
+
+is-allowed-requires : tie.Need-is-allowed-requires
+is-allowed-requires c κs = search needs
+
+select-requires : tie.Need-select-requires
+select-requires c κs = search needs
+
+select-requires-2 : tie.Need-select-requires-2
+select-requires-2 c κs = search needs
+
+select-requires-3 : tie.Need-select-requires-3
+select-requires-3 c κs = search needs
+
+is-lacking-requires : tie.Need-is-lacking-requires
+is-lacking-requires c κs = search needs
+
+select-requires-4 : tie.Need-select-requires-4
+select-requires-4 c κs = search needs
+
+returns : tie.Need-returns
+unfolding burstFinish
+returns c =
+    let a = c .before .before .before .before .before .before .before in
+    let st = a .args .st in
+    λ f p s o h. rw (c .select4 .ensures, c .before .is-lacking .ensures, c .before .before .select3 .ensures, c .before .before .before .select2 .ensures, c .before .before .before .before .select .ensures, c .before .before .before .before .before .is-allowed .ensures, c .before .before .before .before .before .before .stage-of .ensures, short-is st f (a .args .commands .now) p o s (a .args .len) (a .pre) h)
+
+pub finish-number-spec : {M : Type 1} → statement M
+finish-number-spec =
+    tie.close
+    (tie.spec
+    stage-of-requires
+    is-allowed-requires
+    select-requires
+    select-requires-2
+    select-requires-3
+    is-lacking-requires
+    select-requires-4
+    returns)

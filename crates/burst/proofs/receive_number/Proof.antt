@@ -1,0 +1,26 @@
+-- `burst::receive_number` meets its contract.
+use Rattle.model.specs.Bursts.{burstReceive}
+use Rattle.burst.proofs.Laws.{short-is}
+use borrow.Author.Needs.{needs}
+use Rattle.burst.proofs.receive_number.Statement.{statement}
+use Rattle.burst.proofs.receive_number.Tie as tie
+
+byte-number-requires : tie.Need-byte-number-requires
+byte-number-requires c κs = search needs
+
+is-lacking-requires : tie.Need-is-lacking-requires
+is-lacking-requires c κs = search needs
+
+select-requires : tie.Need-select-requires
+select-requires c κs = search needs
+
+returns : tie.Need-returns
+unfolding burstReceive
+returns c =
+    let a = c .before .before .before in
+    let st = a .args .st in
+    λ f p s o byte h. rw (c .select .ensures, c .before .is-lacking .ensures, c .before .before .byte-number .ensures, short-is st f (a .args .commands .now) p o s (a .args .len) (a .pre) h)
+
+pub receive-number-spec : {M : Type 1} → statement M
+receive-number-spec =
+    tie.close (tie.spec byte-number-requires is-lacking-requires select-requires returns)

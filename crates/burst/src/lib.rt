@@ -1,0 +1,229 @@
+// Offload bursts, behind the two tests of bank and store: the trigger, and 01's events in an open burst. A layer, no
+// interface. No queue is touched.
+ghost use mathlib.Core.Path.{_≡_};
+ghost use mathlib.Core.Bool.{true, cond, _&&_, _||_};
+ghost use mathlib.Core.List.{List};
+ghost use Prim.Native.Nat.{ℕ, _+_, _-_, _≤_};
+ghost use lib.Dec.{ltb};
+ghost use lib.ListN.{length, getD, set};
+ghost use Rattle.bank.specs.declared.Phase.the-variants.{Idle};
+ghost use Rattle.bank.specs.Bits.{bit, bits};
+ghost use Rattle.bank.specs.Phases.{broadcast};
+ghost use Rattle.bank.specs.Bursts.{span, readsIn, writesIn, bursting, place};
+ghost use Rattle.bank.specs.Formed.{openOk};
+ghost use Rattle.model.specs.View.{Tables};
+ghost use Rattle.model.specs.Decision.{_⇒_∣_};
+ghost use Rattle.model.specs.Commands.{Single, kindOf, begun};
+ghost use Rattle.model.specs.Bursts.{standing, short, trigger, burstSend, burstReceive, burstFinish};
+ghost use Rattle.answer.specs.Given.{view, number, given, decided, tables};
+use answer::Next;
+use bank::Control;
+use bank::Phase;
+use bank::Regs;
+use bank::State;
+use bank::bursts;
+use bank::phases;
+
+// Whether an output of so many words is shorter than the reads.
+fn is_lacking(g: Regs, commands: &[u32; 16], len: usize) -> bool
+    ensures { λ b. ⌜ b ≡ ltb len (readsIn (span g) (now (commands .entry))) ⌝ }
+{
+    len < bursts::reads_in(commands, bursts::span_of(g))
+}
+
+// Whether a burst is open and the output is too short for it. Outside a burst nothing is counted.
+pub fn is_short(c: Control, g: Regs, commands: &[u32; 16], len: usize) -> bool
+    ensures { λ b. ⌜ b ≡ (bursting c && ltb len (readsIn (span g) (now (commands .entry)))) ⌝ }
+{
+    if !bursts::is_bursting(c) {
+        return false;
+    }
+    is_lacking(g, commands, len)
+}
+
+// The burst stands at another command, or at none.
+fn stand(c: Control, n: u8) -> Control
+    ensures { λ r. ⌜ r ≡ standing n c ⌝ }
+{
+    let mut next = c;
+    next.burst = n;
+    next
+}
+
+// ── Trigger ────────────────────────────────────────────────────────────────────────────────────────────────────
+
+// The number of a trigger, 0 where none of its tests holds.
+fn trigger_number(st: State, commands: &[u32; 16], len: usize) -> u32
+    ensures { λ n. ⌜ ((f p s o : List ℕ) → length o ≡ len → n ≡ number (trigger (view st (tables f (now (commands .entry)) p o) s))) ⌝ }
+{
+    let p = st.phase;
+    let at = phases::stage_of(p);
+    let span = bursts::span_of(st.regs);
+    let runs = bursts::all_carried(commands, span);
+    let n = bank::select(is_lacking(st.regs, commands, len), 13, 0);
+    let n = bank::select(!runs, 29, n);
+    let n = bank::select(span == 0, 28, n);
+    let n = bank::select(!bursts::is_offload(st.regs), 8, n);
+    let n = bank::select(!(at == phases::IDLE), 6, n);
+    bank::select(st.control.held, 5, n)
+}
+
+// A burst begins with the transfer of its first command.
+pub fn trigger(st: State, flags: &[u8; 128], commands: &[u32; 16], len: usize) -> Next
+    ensures { λ y. ⌜ ((p s o : List ℕ) → length o ≡ len → (let t = tables (now (flags .entry)) (now (commands .entry)) p o in given y t s ≡ decided st t s (trigger (view st t s)))) ⌝ }
+{
+    let n = trigger_number(st, commands, len);
+    if n != 0 {
+        return answer::refuse(st, n);
+    }
+    let w = commands[0];
+    let p = transfer::private_phase(flags, w);
+    let q = st.queues;
+    let g = st.regs;
+    let c = stand(st.control, 1);
+    answer::done(q, g, c, p, 0, 0)
+}
+
+// ── Bytes ──────────────────────────────────────────────────────────────────────────────────────────────────────
+
+// The offload data word of the write at hand: the next for each write.
+fn data_word(c: Control, commands: &[u32; 16], payloads: &[u32; 16]) -> u32
+    requires { ⌜ c .burst ≤ 15 ⌝ }
+    ensures { λ w. ⌜ w ≡ getD (now (payloads .entry)) (writesIn (place c) (now (commands .entry))) 0 ⌝ }
+{
+    let n = c.burst as usize;
+    if n == 0 {
+        return payloads[0];
+    }
+    let k = n - 1;
+    payloads[k - bursts::reads_in(commands, k)]
+}
+
+// The number of a byte sent, 0 where none of its tests holds.
+fn send_number(st: State, commands: &[u32; 16], len: usize) -> u32
+    requires { ⌜ bursting (st .control) ≡ true ⌝ }
+    ensures { λ n. ⌜ ((f p s o : List ℕ) → length o ≡ len → (let v = view st (tables f (now (commands .entry)) p o) s in n ≡ number (short v ⇒ 13 ∣ burstSend v))) ⌝ }
+{
+    let n = payload::byte_number(st, phases::WRITING, 0);
+    bank::select(is_lacking(st.regs, commands, len), 13, n)
+}
+
+// A byte sent: of the offload data word, as many places from its top as bytes have moved.
+pub fn send(st: State, commands: &[u32; 16], payloads: &[u32; 16], len: usize) -> Next
+    requires { ⌜ (bursting (st .control) ≡ true) × (openOk (st .control) (st .regs) (st .phase) (now commands) ≡ true) ⌝ }
+    ensures { λ y. ⌜ ((f s o : List ℕ) → length o ≡ len → (let t = tables f (now (commands .entry)) (now (payloads .entry)) o in given y t s ≡ decided st t s (short (view st t s) ⇒ 13 ∣ burstSend (view st t s)))) ⌝ }
+{
+    let n = send_number(st, commands, len);
+    if n != 0 {
+        return answer::refuse(st, n);
+    }
+    let p = st.phase;
+    let t = phases::transfer_of(p);
+    let w = data_word(st.control, commands, payloads);
+    let byte = w / payload::weight(t.moved.0) % 256;
+    let next = payload::advance(t, 0);
+    let q = st.queues;
+    let g = st.regs;
+    let c = st.control;
+    answer::done(q, g, c, Phase::Writing(next), byte, 0)
+}
+
+// The number of a byte received, 0 where none of its tests holds.
+fn receive_number(st: State, commands: &[u32; 16], len: usize) -> u32
+    requires { ⌜ bursting (st .control) ≡ true ⌝ }
+    ensures { λ n. ⌜ ((f p s o : List ℕ) (byte : ℕ) → length o ≡ len → (let v = view st (tables f (now (commands .entry)) p o) s in n ≡ number (short v ⇒ 13 ∣ burstReceive v byte))) ⌝ }
+{
+    let n = payload::byte_number(st, phases::READING, 0);
+    bank::select(is_lacking(st.regs, commands, len), 13, n)
+}
+
+// A byte received: it stays in the part word until the finish.
+pub fn receive(st: State, commands: &[u32; 16], len: usize, byte: u8) -> Next
+    requires { ⌜ (bursting (st .control) ≡ true) × (openOk (st .control) (st .regs) (st .phase) (now commands) ≡ true) ⌝ }
+    ensures { λ y. ⌜ ((f p s o : List ℕ) → length o ≡ len → (let t = tables f (now (commands .entry)) p o in given y t s ≡ decided st t s (short (view st t s) ⇒ 13 ∣ burstReceive (view st t s) byte))) ⌝ }
+{
+    let n = receive_number(st, commands, len);
+    if n != 0 {
+        return answer::refuse(st, n);
+    }
+    let p = st.phase;
+    let t = phases::transfer_of(p);
+    let w = payload::gathered(t.part, t.moved.0, byte);
+    let next = payload::advance(t, w);
+    let q = st.queues;
+    let g = st.regs;
+    let c = st.control;
+    answer::done(q, g, c, Phase::Reading(next), 0, 0)
+}
+
+// ── Finish ─────────────────────────────────────────────────────────────────────────────────────────────────────
+
+// The number of a finish, 0 where none of its tests holds.
+fn finish_number(st: State, commands: &[u32; 16], len: usize, code: u8) -> u32
+    requires { ⌜ bursting (st .control) ≡ true ⌝ }
+    ensures { λ n. ⌜ ((f p s o : List ℕ) → length o ≡ len → (let v = view st (tables f (now (commands .entry)) p o) s in n ≡ number (short v ⇒ 13 ∣ burstFinish v code))) ⌝ }
+{
+    let p = st.phase;
+    let at = phases::stage_of(p);
+    let ends = transfer::is_allowed(p, code);
+    let n = bank::select(!ends, 14, 0);
+    let n = bank::select(at == phases::IDLE, 7, n);
+    let n = bank::select(st.control.held, 5, n);
+    bank::select(is_lacking(st.regs, commands, len), 13, n)
+}
+
+// One word of the output, where it comes. A place past the end stores nothing, so no caller has to bound it.
+fn deliver(output: &mut [u32], comes: bool, at: usize, w: u32)
+    ensures { λ _. ⌜ now (output .exit) ≡ cond comes (set (now (output .entry)) at w) (now (output .entry)) ⌝ }
+{
+    if comes & (at < output.len()) {
+        output[at] = w;
+    }
+}
+
+// Where the burst stands after the transfer of command number `n`, counted from 1.
+fn after(last: bool, n: u8) -> u8
+    requires { ⌜ n ≤ 15 ⌝ }
+    ensures { λ k. ⌜ k ≡ cond last 0 (n + 1) ⌝ }
+{
+    if last { 0 } else { n + 1 }
+}
+
+// The transfer of the next command, or none.
+fn next_phase(last: bool, flags: &[u8; 128], w: u32) -> Phase
+    ensures { λ p. ⌜ p ≡ cond last Idle (begun (Single w) (broadcast (kindOf (Single w)) || bit 0 (getD (now (flags .entry)) (bits 7 1 w) 0))) ⌝ }
+{
+    if last {
+        return Phase::Idle;
+    }
+    transfer::private_phase(flags, w)
+}
+
+// The open transfer ends with a code: the word of a read goes to the output, and the next transfer opens.
+pub fn finish(
+    st: State,
+    flags: &[u8; 128],
+    commands: &[u32; 16],
+    output: &mut [u32],
+    code: u8,
+) -> Next
+    requires { ⌜ (bursting (st .control) ≡ true) × (openOk (st .control) (st .regs) (st .phase) (now commands) ≡ true) ⌝ }
+    ensures { λ y. ⌜ ((p s : List ℕ) → (let t = tables (now (flags .entry)) (now (commands .entry)) p (now (output .entry)) in given y (tables (now (flags .entry)) (now (commands .entry)) p (now (output .exit))) s ≡ decided st t s (short (view st t s) ⇒ 13 ∣ burstFinish (view st t s) code))) ⌝ }
+{
+    let n = finish_number(st, commands, output.len(), code);
+    if n != 0 {
+        return answer::refuse(st, n);
+    }
+    let p = st.phase;
+    let t = phases::transfer_of(p);
+    let reads = phases::stage_of(p) == phases::READING;
+    let k = st.control.burst as usize;
+    deliver(output, reads, bursts::reads_in(commands, k - 1), t.part);
+    let last = bursts::span_of(st.regs) <= k;
+    let w = commands[k];
+    let next = next_phase(last, flags, w);
+    let q = st.queues;
+    let g = st.regs;
+    let c = stand(st.control, after(last, st.control.burst));
+    answer::done(q, g, c, next, 0, 0)
+}

@@ -1,0 +1,112 @@
+-- Offload bursts, 02 §3: the trigger, 01's events inside an open burst; and every call.
+use Prim.Native.Nat.{ℕ, _+_, _-_, _*_, _/_, _%_, _^_}
+use mathlib.Core.Bool.{Bool, cond, not, _&&_}
+use mathlib.Core.List.{List}
+use lib.Dec.{leb, ltb, eqb}
+use lib.ListN.{length, getD, set}
+use Rattle.bank.specs.declared.Control.{Control}
+use Rattle.bank.specs.declared.Phase.{Phase}
+use Rattle.bank.specs.declared.Phase.the-variants.{Idle, Writing, Reading}
+use Rattle.bank.specs.Phases.{idle, writing, reading, transfer, unattached}
+use Rattle.bank.specs.Bursts.{offloads, span, allCarried, readsIn, writesIn, bursting, place}
+use Rattle.registers.specs.Map.{registerAt}
+use Rattle.model.specs.declared.Call.{Call}
+use Rattle.model.specs.declared.Call.the-variants.{Read, Write, Start, Send, Receive, Finish, Interrupt, Request, Take, Trigger}
+use Rattle.model.specs.View.{Tables, View}
+use Rattle.model.specs.Decision.{unchanged, _withValue_, _withControl_, _withPhase_, _withTables_, Decision, does, _⇒_∣_}
+use Rattle.model.specs.Commands.{Single, begun}
+use Rattle.model.specs.Registers.{row, read, write}
+use Rattle.model.specs.Calls.{busy, attached, advanced, reached, allowed, start, send, receive, finish, interrupt, request, takeAddress}
+
+-- ── What a burst runs ─────────────────────────────────────────────────────────────────────────────────────────
+-- "Its transfers open one after another, each noting attachment then": the transfer of the command at place k
+abbrev pub opening : View → ℕ → Phase
+opening s k = let c = Single (getD (s .tables .commands) k 0) in begun c (attached s c)
+
+-- the burst stands at another command
+abbrev pub standing : ℕ → Control → Control
+standing n c = record { held = c .held; sync = c .sync; ibisync = c .ibisync; cmdrpending = c .cmdrpending; ibipending = c .ibipending; daapending = c .daapending; burst = n }
+
+-- "output shorter than the reads": the burst that OPS and the offload commands give needs a word for each of its reads
+abbrev pub lacking : View → Bool
+lacking s = ltb (length (s .tables .output)) (readsIn (span (s .regs)) (s .tables .commands))
+
+-- "13 output shorter than the reads (at each event in an open burst too, after 18 ..)"
+unfoldable pub short : View → Bool
+short s = bursting (s .control) && lacking s
+
+-- ── Trigger: "5 and 6 as for start, then 8 when mode is 0, 28 length field 0, 29 a command not carried, 13" ───
+unfoldable pub trigger : View → Decision
+trigger s =
+    s .control .held ⇒ 5
+    ∣ busy s ⇒ 6
+    ∣ not (offloads (s .regs)) ⇒ 8
+    ∣ eqb (span (s .regs)) 0 ⇒ 28
+    ∣ not (allCarried (span (s .regs)) (s .tables .commands)) ⇒ 29
+    ∣ lacking s ⇒ 13
+    ∣ does (unchanged s withControl standing 1 (s .control) withPhase opening s 0)
+
+-- ── 01's events in an open burst ──────────────────────────────────────────────────────────────────────────────
+-- "each private write has the next offload data word for its bytes, most significant first"
+abbrev pub dataWord : View → ℕ
+dataWord s = getD (s .tables .payloads) (writesIn (place (s .control)) (s .tables .commands)) 0
+
+unfoldable pub burstSend : View → Decision
+burstSend s =
+    let t = transfer (s .phase) in
+    s .control .held ⇒ 5
+    ∣ idle (s .phase) ⇒ 7
+    ∣ unattached (s .phase) ⇒ 20
+    ∣ not (writing (s .phase)) ⇒ 10
+    ∣ reached t ⇒ 11
+    ∣ does (unchanged s withValue dataWord s / 2 ^ (24 - 8 * t .moved .0) % 256 withPhase Writing (advanced t 0))
+
+unfoldable pub burstReceive : View → ℕ → Decision
+burstReceive s byte =
+    let t = transfer (s .phase) in
+    s .control .held ⇒ 5
+    ∣ idle (s .phase) ⇒ 7
+    ∣ unattached (s .phase) ⇒ 20
+    ∣ not (reading (s .phase)) ⇒ 10
+    ∣ reached t ⇒ 11
+    ∣ does (unchanged s withPhase Reading (advanced t (t .part + byte * 2 ^ (24 - 8 * t .moved .0))))
+
+-- the transfer is that of the last command
+abbrev pub lastly : View → Bool
+lastly s = leb (span (s .regs)) (s .control .burst)
+
+-- "Read bytes go to a lent output of words, one per read command at its finish, padded with 0"
+abbrev pub delivered : View → Tables
+delivered s =
+    let t = s .tables in
+    let at = readsIn (place (s .control)) (t .commands) in
+    record { flags = t .flags; commands = t .commands; payloads = t .payloads; output = cond (reading (s .phase)) (set (t .output) at (transfer (s .phase) .part)) (t .output) }
+
+-- "Burst transfers queue no receipt (the finish's value is 0), use no sync"; "an error code doesn't stop it, and the last finish or a
+-- reset closes it"
+unfoldable pub burstFinish : View → ℕ → Decision
+burstFinish s code =
+    let n = s .control .burst in
+    s .control .held ⇒ 5
+    ∣ idle (s .phase) ⇒ 7
+    ∣ not (allowed (s .phase) code) ⇒ 14
+    ∣ does (unchanged s withControl standing (cond (lastly s) 0 (n + 1)) (s .control) withPhase cond (lastly s) Idle (opening s n) withTables delivered s)
+
+-- ── Any call ──────────────────────────────────────────────────────────────────────────────────────────────────
+-- an event: outside a burst as 01 says it, inside by the burst
+abbrev pub within : View → Decision → Decision → Decision
+within s inside outside = short s ⇒ 13 ∣ cond (bursting (s .control)) inside outside
+
+-- "21 goes first, then 22, then 18", then 13 in an open burst, "then the order given at each event". In an open burst a transfer is open
+-- that is no ENTDAA, so a start and an interrupt request are 6, an address request and an address take 10.
+abbrev pub decide : View → Call → Decision
+decide s (Read o) = read (row (registerAt o)) s
+decide s (Write o v) = write (row (registerAt o)) s v
+decide s Start = short s ⇒ 13 ∣ start s
+decide s Send = within s (burstSend s) (send s)
+decide s (Receive byte) = within s (burstReceive s byte) (receive s byte)
+decide s (Finish code) = ltb 15 code ⇒ 18 ∣ within s (burstFinish s code) (finish s code)
+decide s (Interrupt a byte) = ltb 127 a ⇒ 18 ∣ short s ⇒ 13 ∣ interrupt s a byte
+decide s (Request v w) = short s ⇒ 13 ∣ request s v w
+decide s Take = short s ⇒ 13 ∣ takeAddress s
+decide s Trigger = short s ⇒ 13 ∣ trigger s

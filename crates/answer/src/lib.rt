@@ -31,14 +31,62 @@ pub struct Out {
     pub answer: Answer,
 }
 
+// The parts of a state as they are, put together field by field: see `ring::moved`.
+fn queues_by_field(q: Queues) -> Queues
+    ensures { λ r. ⌜ r ≡ q ⌝ }
+{
+    let cmd = ring::moved(q.cmd, q.cmd.head, q.cmd.level.0);
+    let cmdr = ring::moved(q.cmdr, q.cmdr.head, q.cmdr.level.0);
+    let sdo = ring::moved(q.sdo, q.sdo.head, q.sdo.level.0);
+    let sdi = ring::moved(q.sdi, q.sdi.head, q.sdi.level.0);
+    let ibi = ring::moved(q.ibi, q.ibi.head, q.ibi.level.0);
+    Queues {
+        cmd: cmd,
+        cmdr: cmdr,
+        sdo: sdo,
+        sdi: sdi,
+        ibi: ibi,
+    }
+}
+
+fn regs_by_field(g: Regs) -> Regs
+    ensures { λ r. ⌜ r ≡ g ⌝ }
+{
+    Regs {
+        id: g.id,
+        scratch: g.scratch,
+        mask: g.mask,
+        ops: g.ops,
+        config: g.config,
+        selected: g.selected,
+    }
+}
+
+fn control_by_field(c: Control) -> Control
+    ensures { λ r. ⌜ r ≡ c ⌝ }
+{
+    Control {
+        held: c.held,
+        sync: c.sync,
+        ibisync: c.ibisync,
+        cmdrpending: c.cmdrpending,
+        ibipending: c.ibipending,
+        daapending: c.daapending,
+        burst: c.burst,
+    }
+}
+
 // A call that is done.
 pub fn done(q: Queues, g: Regs, c: Control, p: Phase, value: u32, number: u32) -> Next
     ensures { λ r. ⌜ r ≡ doneNext q g c p value number ⌝ }
 {
+    let queues = queues_by_field(q);
+    let regs = regs_by_field(g);
+    let control = control_by_field(c);
     let s = State {
-        queues: q,
-        regs: g,
-        control: c,
+        queues: queues,
+        regs: regs,
+        control: control,
         phase: p,
     };
     let a = Answer {
@@ -99,9 +147,7 @@ pub fn push_if(r: Ring, base: usize, store: &mut [u32], comes: bool, w: u32) -> 
     let at = base + ring::place(r, r.level.0) as usize;
     put_if(store, at, comes, w);
     let level = r.level.0 + bank::select(comes, 1, 0);
-    let mut next = r;
-    next.level.0 = level;
-    next
+    ring::moved(r, r.head, level)
 }
 
 // The ring with two entries more.

@@ -37,6 +37,19 @@ pub fn place(r: Ring, i: u32) -> u32
     if at < cap { at } else { at - cap }
 }
 
+// A ring with another head and another level, put together field by field: fields that are copied in one piece stay in
+// memory through a list of calls, stored apart and loaded together, which stalls.
+pub fn moved(r: Ring, head: u32, level: u32) -> Ring
+    ensures { λ p. ⌜ p ≡ record { cap = r .cap; mark = r .mark; head = head; level = record { 0 = level } } ⌝ }
+{
+    Ring {
+        cap: Words(r.cap.0),
+        mark: Words(r.mark.0),
+        head: head,
+        level: Words(level),
+    }
+}
+
 // The ring with one entry more, behind the last.
 pub fn push(r: Ring, base: usize, store: &mut [u32], w: u32) -> Ring
     requires { ⌜ (Valid r) × (r .level .0 < r .cap .0) × (base + r .cap .0 ≤ length (now store)) ⌝ }
@@ -44,10 +57,8 @@ pub fn push(r: Ring, base: usize, store: &mut [u32], w: u32) -> Ring
 {
     let at = base + place(r, r.level.0) as usize;
     store[at] = w;
-    let mut next = r;
     let level = r.level.0 + 1;
-    next.level.0 = level;
-    next
+    moved(r, r.head, level)
 }
 
 // The entry that lies `i` after the first, or 0 where there are fewer.
@@ -68,19 +79,14 @@ pub fn take(r: Ring, n: Words) -> Ring
     requires { ⌜ (Valid r) × (n .0 ≤ r .level .0) ⌝ }
     ensures { λ p. ⌜ p ≡ takenOf r (n .0) ⌝ }
 {
-    let mut next = r;
-    next.head = place(r, n.0);
+    let head = place(r, n.0);
     let level = r.level.0 - n.0;
-    next.level.0 = level;
-    next
+    moved(r, head, level)
 }
 
 // The ring with no entry, its head at the first place.
 pub fn clear(r: Ring) -> Ring
     ensures { λ p. ⌜ p ≡ clearedOf r ⌝ }
 {
-    let mut next = r;
-    next.head = 0;
-    next.level.0 = 0;
-    next
+    moved(r, 0, 0)
 }

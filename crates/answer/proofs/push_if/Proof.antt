@@ -26,13 +26,16 @@ add-level c =
     let h = grown (a .args .comes) (a .args .r .level .0) (a .args .r .cap .0) (a .pre .0 .level-most) (a .pre .0 .cap-most) in
     rw (c .before .select .ensures) (record { fits = h })
 
+moved-requires : tie.Need-moved-requires
+moved-requires c κs = search needs
+
 same-length : tie.Need-same-length
 same-length c = search needs
 
 returns : tie.Need-returns
 returns c =
     let a = c .before .before .before .before .before .before .before .before .before in
-    (rw (c .before .before .select .ensures) (pushed-if (a .args .comes) (a .args .w) (a .args .r)), rw (c .before .before .before .before .before .put-if .ensures, c .before .before .before .before .before .before .before .place .ensures .0) (stored-if (a .args .comes) (a .args .w) (a .args .r) (a .args .base) (a .args .store .now)))
+    (rw (c .moved .ensures, c .before .before .select .ensures) (pushed-if (a .args .comes) (a .args .w) (a .args .r)), rw (c .before .before .before .before .before .put-if .ensures, c .before .before .before .before .before .before .before .place .ensures .0) (stored-if (a .args .comes) (a .args .w) (a .args .r) (a .args .base) (a .args .store .now)))
 
 pub push-if-spec : {M : Type 1} → statement M
 push-if-spec =
@@ -44,5 +47,6 @@ push-if-spec =
     put-if-requires
     select-requires
     add-level
+    moved-requires
     same-length
     returns)

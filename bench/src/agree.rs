@@ -1,107 +1,12 @@
 //! The plain engine gives what the second program gives, after every call of several lists.
 
+use crate::pair::{Pair, SET_UPS};
 use crate::plain::call::Call;
 use crate::plain::transfer::{Kind, Phase, Requests, Transfer};
 use crate::plain::{offset, Answer, Bank};
 use crate::trace;
-use reference::SetupNumbers;
 
 const CALLS_A_LIST: usize = 150_000;
-
-/// A set-up, capacities and watermarks.
-type SetUp = ([u32; 5], [u32; 5], u8);
-
-const SET_UPS: [SetUp; 5] = [
-    ([4, 4, 4, 4, 4], [1, 3, 1, 3, 3], 0),
-    ([64, 64, 64, 64, 64], [1, 63, 1, 63, 63], 0),
-    ([2, 1, 1, 2, 1], [0, 1, 1, 0, 0], 255),
-    ([3, 5, 2, 7, 4], [3, 0, 2, 7, 2], 90),
-    ([1024, 1024, 1024, 1024, 1024], [512, 4, 1024, 0, 1023], 1),
-];
-
-fn store_of(caps: [u32; 5]) -> Vec<u32> {
-    vec![0; caps.iter().sum::<u32>() as usize]
-}
-
-fn reference_bank((caps, marks, id): SetUp) -> reference::Bank {
-    let numbers = SetupNumbers {
-        capacities: caps,
-        watermarks: marks,
-        id: u32::from(id),
-    };
-    let (bank, answer) = reference::set_up(&numbers);
-    assert_eq!(answer.number, 0);
-    bank
-}
-
-fn reference_call(call: Call) -> reference::Call {
-    match call {
-        Call::Read { offset } => reference::Call::Read { offset },
-        Call::Write { offset, value } => reference::Call::Write { offset, value },
-        Call::Start => reference::Call::Start,
-        Call::Send => reference::Call::Send,
-        Call::Receive { byte } => reference::Call::Receive { byte },
-        Call::Finish { code } => reference::Call::Finish { code },
-        Call::Interrupt { address, byte } => reference::Call::InterruptRequest { address, byte },
-        Call::Request { first, second } => reference::Call::AddressRequest { first, second },
-        Call::Take => reference::Call::AddressTake,
-    }
-}
-
-/// Both engines, and how often each number was given.
-struct Pair {
-    plain: Bank,
-    store: Vec<u32>,
-    reference: reference::Bank,
-    seen: [usize; 21],
-}
-
-impl Pair {
-    fn new(set_up: SetUp) -> Pair {
-        let (caps, marks, id) = set_up;
-        Pair {
-            plain: Bank::new(caps, marks, id),
-            store: store_of(caps),
-            reference: reference_bank(set_up),
-            seen: [0; 21],
-        }
-    }
-
-    fn both(&mut self, call: Call) -> Answer {
-        let plain = self.plain.step(&mut self.store, call);
-        let reference = self.reference.call(&reference_call(call), &mut []);
-        assert_eq!(plain.value, reference.value, "{call:?}");
-        assert_eq!(plain.number, u32::from(reference.number), "{call:?}");
-        plain
-    }
-
-    /// A call, then every register whose read changes nothing. A refusal changes nothing.
-    fn call(&mut self, call: Call) {
-        let before = (self.plain.clone(), self.store.clone());
-        let answer = self.both(call);
-        self.seen[answer.number as usize] += 1;
-        if answer.number != 0 && answer.number != 19 {
-            assert_eq!(before, (self.plain.clone(), self.store.clone()), "{call:?}");
-        }
-        for offset in trace::shown() {
-            self.both(Call::Read { offset });
-        }
-    }
-
-    fn list(&mut self, calls: &[u32]) {
-        for entry in calls.chunks_exact(3) {
-            let call = Call::of(entry[0], entry[1], entry[2]).expect("a letter of the nine");
-            self.call(call);
-        }
-    }
-
-    /// The words that are still queued.
-    fn drain(&mut self) {
-        for offset in [offset::CMDR, offset::SDI, offset::IBI] {
-            while self.both(Call::Read { offset }).number == 0 {}
-        }
-    }
-}
 
 #[test]
 fn gives_what_the_second_program_gives() {
@@ -118,7 +23,7 @@ fn gives_what_the_second_program_gives() {
         for list in lists {
             pair.list(&list);
             pair.drain();
-            calls += list.len() / 3;
+            calls += list.count();
         }
         for (all, more) in seen.iter_mut().zip(pair.seen) {
             *all += more;

@@ -7,3 +7,7 @@ pub mod trace;
 
 #[cfg(test)]
 mod agree;
+#[cfg(test)]
+mod pair;
+#[cfg(test)]
+mod replays;

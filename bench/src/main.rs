@@ -85,12 +85,14 @@ fn print_counts(works: &[Work]) {
 
 fn compare(works: &[Work], processes: usize, list: &str) {
     works.iter().for_each(verify::verify);
-    println!("Same count, last answer, store words and registers on every list.\n");
+    verify::verify_wrong(&work::short());
+    println!("Same count, last answer, store words and registers on every list.");
+    println!("Same count, last answer and store words where a record or file is wrong.\n");
     println!("Calls answered 0, of those made:\n");
     print_counts(works);
     let all: Vec<_> = (0..processes).map(|_| times_of_a_process(list)).collect();
     println!(
-        "\nNanoseconds a call, least of a process's runs, and ratios of model to plain, of least"
+        "\nNanoseconds a record, least of a process's runs, and ratios of model to plain, of least"
     );
     println!("and of middle times; each the middle over {processes} processes, with the range:\n");
     println!(

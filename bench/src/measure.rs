@@ -1,13 +1,14 @@
-//! Times one process's runs of a list: plain engine and model by turns, each on a cleared store.
+//! Times one process's runs of a trace: plain engine and model by turns, each on a cleared store.
 
 use crate::model::Variant;
 use crate::work::Work;
+use bench::trace::file::Trace;
 use std::hint::black_box;
 use std::time::Instant;
 
 const RUNS: usize = 21;
 
-/// The least and the middle time of a side's runs, in nanoseconds a call.
+/// The least and the middle time of a side's runs, in nanoseconds a record.
 #[derive(Clone, Copy)]
 pub struct Times {
     pub least: f64,
@@ -24,14 +25,14 @@ impl Times {
     }
 }
 
-/// The time of one run, in nanoseconds a call.
-fn time(calls: &[u32], store: &mut [u32], run: impl FnOnce(&mut [u32], &[u32])) -> f64 {
+/// The time of one run, in nanoseconds a record.
+fn time(trace: &Trace, store: &mut [u32], run: impl FnOnce(&mut [u32], &[u8])) -> f64 {
     store.fill(0);
     let start = Instant::now();
-    run(black_box(&mut *store), black_box(calls));
+    run(black_box(&mut *store), black_box(trace.file()));
     let spent = start.elapsed();
     black_box(store);
-    spent.as_secs_f64() * 1e9 / (calls.len() / 3) as f64
+    spent.as_secs_f64() * 1e9 / trace.count() as f64
 }
 
 /// Plain engine, then model.
@@ -39,11 +40,11 @@ pub fn measure(work: &Work, variant: &Variant) -> [Times; 2] {
     let (mut plain, mut model) = (Vec::new(), Vec::new());
     let mut store = work.store();
     for _ in 0..RUNS {
-        plain.push(time(&work.calls, &mut store, |store, calls| {
-            black_box(work.run_plain(store, calls));
+        plain.push(time(&work.trace, &mut store, |store, file| {
+            black_box(work.replay_plain(store, file));
         }));
-        model.push(time(&work.calls, &mut store, |store, calls| {
-            black_box(variant.run(work.cap, store, calls));
+        model.push(time(&work.trace, &mut store, |store, file| {
+            black_box(variant.replay(work.cap, store, file));
         }));
     }
     [Times::of(plain), Times::of(model)]

@@ -1,20 +1,21 @@
 //! The proved model: the functions of the archives that `rt staticlib timing_list` and
 //! `rt staticlib timing_each` write.
 
-use bench::plain::{Answer, Ran};
+use bench::plain::replay::Ran;
+use bench::plain::Answer;
 
 // A slice is passed as its first element's place and its length.
 type Exported =
-    unsafe extern "C" fn(u32, *mut u32, usize, *const u32, usize, *mut u32, usize) -> u32;
+    unsafe extern "C" fn(u32, *mut u32, usize, *const u8, usize, *mut u32, usize) -> u32;
 
 #[link(name = "timing_list", kind = "static")]
 extern "C" {
-    fn run_list(
+    fn replay_trace(
         cap: u32,
         store: *mut u32,
         store_len: usize,
-        calls: *const u32,
-        calls_len: usize,
+        file: *const u8,
+        file_len: usize,
         last: *mut u32,
         last_len: usize,
     ) -> u32;
@@ -22,18 +23,18 @@ extern "C" {
 
 #[link(name = "timing_each", kind = "static")]
 extern "C" {
-    fn run_each(
+    fn replay_each(
         cap: u32,
         store: *mut u32,
         store_len: usize,
-        calls: *const u32,
-        calls_len: usize,
+        file: *const u8,
+        file_len: usize,
         last: *mut u32,
         last_len: usize,
     ) -> u32;
 }
 
-/// One way to make the calls of a list.
+/// One way to replay a trace.
 pub struct Variant {
     pub name: &'static str,
     exported: Exported,
@@ -41,19 +42,20 @@ pub struct Variant {
 
 pub const VARIANTS: [Variant; 2] = [
     Variant {
-        name: "one call for the list",
-        exported: run_list,
+        name: "one call for the trace",
+        exported: replay_trace,
     },
     Variant {
-        name: "call by call",
-        exported: run_each,
+        name: "record by record",
+        exported: replay_each,
     },
 ];
 
 impl Variant {
-    /// Sets up a bank with every capacity `cap` and makes the calls of a list.
-    pub fn run(&self, cap: u32, store: &mut [u32], calls: &[u32]) -> Ran {
-        let mut last = [0; 2];
+    /// Sets up a bank with every capacity `cap` and replays section 0 of a trace file.
+    pub fn replay(&self, cap: u32, store: &mut [u32], file: &[u8]) -> Ran {
+        // No answer has this number: the function must write its own.
+        let mut last = [u32::MAX; 2];
         // SAFETY: each place and length is of a slice that lives through the call, and no two of
         // the three overlap. The function is proved safe for any contents.
         let made = unsafe {
@@ -61,8 +63,8 @@ impl Variant {
                 cap,
                 store.as_mut_ptr(),
                 store.len(),
-                calls.as_ptr(),
-                calls.len(),
+                file.as_ptr(),
+                file.len(),
                 last.as_mut_ptr(),
                 last.len(),
             )

@@ -2,7 +2,9 @@
 //! place, with the same checks at each call. Written for speed first; no call allocates.
 
 pub mod call;
+pub mod file;
 pub mod offset;
+pub mod replay;
 pub mod ring;
 pub mod transfer;
 
@@ -595,27 +597,4 @@ impl Bank {
             number: WRONG_PARITY,
         }
     }
-}
-
-/// How many calls of a list were made, and the last one's answer.
-#[derive(Clone, Copy, Debug, PartialEq, Eq)]
-pub struct Ran {
-    pub made: u32,
-    pub answer: Answer,
-}
-
-/// Makes the calls of a list, three numbers each, up to the first that names none.
-pub fn run(bank: &mut Bank, store: &mut [u32], calls: &[u32]) -> Ran {
-    let mut ran = Ran {
-        made: 0,
-        answer: done(0),
-    };
-    for entry in calls.chunks_exact(3) {
-        let Some(call) = Call::of(entry[0], entry[1], entry[2]) else {
-            break;
-        };
-        ran.answer = bank.step(store, call);
-        ran.made += 1;
-    }
-    ran
 }

@@ -23,13 +23,16 @@
 //! | 1 | four calls that are refused: no transfer open, offset not in the map, read-only, argument out of range |
 //! | 1 | 1 time in 4 a reset, an SDO write while held, a release; else a register access |
 //!
-//! [`kinds`] has the lists of one kind.
+//! [`kinds`] has the lists of one kind. A list is written as a trace file with one section.
 
 use crate::plain::offset;
+use file::{record, Trace};
 
+pub mod file;
 pub mod kinds;
 #[cfg(test)]
 pub mod wild;
+pub mod wrong;
 
 /// The letters of a session, in 01's order.
 pub const LETTERS: [u8; 9] = *b"WRSTXFIDA";
@@ -110,7 +113,7 @@ pub fn shown() -> impl Iterator<Item = u16> {
 
 /// Writes a list.
 struct List {
-    calls: Vec<u32>,
+    trace: Trace,
     random: Random,
     cap: u32,
     cmdr: u32,
@@ -121,7 +124,7 @@ struct List {
 impl List {
     fn new(cap: u32, seed: u64) -> List {
         let mut list = List {
-            calls: Vec::new(),
+            trace: Trace::empty(),
             random: Random(seed),
             cap,
             cmdr: 0,
@@ -139,32 +142,33 @@ impl List {
     }
 
     /// Fills the list round by round to exactly `count` calls.
-    fn rounds(mut self, count: usize, round: impl Fn(&mut List)) -> Vec<u32> {
-        while self.calls.len() < 3 * count {
+    fn rounds(mut self, count: usize, round: impl Fn(&mut List)) -> Trace {
+        while self.trace.count() < count {
             round(&mut self);
         }
-        self.calls.truncate(3 * count);
-        self.calls
-    }
-
-    fn call(&mut self, letter: u8, v: u32, w: u32) {
-        self.calls.extend([u32::from(letter), v, w]);
+        self.trace.truncate(count);
+        self.trace
     }
 
     fn write(&mut self, offset: u16, value: u32) {
-        self.call(b'W', u32::from(offset), value);
+        self.trace.push(record(b'W', offset, value, 0));
     }
 
     fn read(&mut self, offset: u16) {
-        self.call(b'R', 0, u32::from(offset));
+        self.trace.push(record(b'R', offset, 0, 0));
+    }
+
+    /// A bus event, by its arguments.
+    fn event(&mut self, letter: u8, first: u32, second: u32) {
+        self.trace.push(record(letter, 0, first, second));
     }
 
     fn start(&mut self) {
-        self.call(b'S', 0, 0);
+        self.event(b'S', 0, 0);
     }
 
     fn finish(&mut self, code: u32) {
-        self.call(b'F', 0, code);
+        self.event(b'F', code, 0);
         self.cmdr += 1;
     }
 
@@ -183,14 +187,14 @@ impl List {
 
     fn send(&mut self, bytes: u32) {
         for _ in 0..bytes {
-            self.call(b'T', 0, 0);
+            self.event(b'T', 0, 0);
         }
     }
 
     fn receive(&mut self, bytes: u32) {
         for _ in 0..bytes {
             let byte = self.random.below(256);
-            self.call(b'X', 0, byte);
+            self.event(b'X', byte, 0);
         }
     }
 
@@ -313,14 +317,14 @@ impl List {
     fn assign(&mut self, wrong: u32) {
         let (first, second) = (self.random.word(), self.random.word());
         let address = self.random.below(128);
-        self.call(b'D', first, second);
+        self.event(b'D', first, second);
         self.sdi += 2;
         for _ in 0..wrong {
             self.write(offset::SDO, address_word(address) ^ WRONG_PARITY);
-            self.call(b'A', 0, 0);
+            self.event(b'A', 0, 0);
         }
         self.write(offset::SDO, address_word(address));
-        self.call(b'A', 0, 0);
+        self.event(b'A', 0, 0);
     }
 
     fn failed_write(&mut self) {
@@ -347,7 +351,7 @@ impl List {
     fn interrupt(&mut self) {
         let device = FIRST_DEVICE + self.random.below(6);
         let byte = self.random.below(256);
-        self.call(b'I', device, byte);
+        self.event(b'I', device, byte);
         self.ibi += 1;
     }
 
@@ -397,13 +401,13 @@ impl List {
     fn refused(&mut self) {
         match self.random.below(10) {
             0 => self.start(),
-            1 => self.call(b'T', 0, 0),
-            2 => self.call(b'X', 0, 0x5a),
-            3 => self.call(b'F', 0, 0),
-            4 => self.call(b'F', 0, 0x1f),
-            5 => self.call(b'I', 0x80, 0),
-            6 => self.call(b'D', 1, 2),
-            7 => self.call(b'A', 0, 0),
+            1 => self.event(b'T', 0, 0),
+            2 => self.event(b'X', 0x5a, 0),
+            3 => self.event(b'F', 0, 0),
+            4 => self.event(b'F', 0x1f, 0),
+            5 => self.event(b'I', 0x80, 0),
+            6 => self.event(b'D', 1, 2),
+            7 => self.event(b'A', 0, 0),
             8 => self.read(0x044),
             _ => self.write(offset::IRQ_SOURCE, 0),
         }
@@ -433,6 +437,6 @@ impl List {
 }
 
 /// The mixed list.
-pub fn mixed(cap: u32, count: usize, seed: u64) -> Vec<u32> {
+pub fn mixed(cap: u32, count: usize, seed: u64) -> Trace {
     List::new(cap, seed).rounds(count, List::mixed_round)
 }

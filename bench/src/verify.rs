@@ -2,9 +2,10 @@
 
 use crate::model::{Variant, VARIANTS};
 use crate::work::Work;
-use bench::plain::call::Call;
 use bench::plain::offset;
-use bench::trace::{self, LETTERS};
+use bench::plain::replay::{replay, Ran};
+use bench::trace::file::{file_of, record};
+use bench::trace::{self, wrong, LETTERS};
 
 /// 02, section 9: "each letter answered 0 ten thousand times or more".
 const LEAST_ANSWERED: usize = 10_000;
@@ -16,16 +17,17 @@ pub struct Count {
     pub answered: usize,
 }
 
+/// By a replay of each record: `replay` stays the only caller of the plain step, which is then
+/// inlined there.
 pub fn count(work: &Work) -> [Count; 9] {
     let mut counts = [Count::default(); 9];
     let (mut bank, mut store) = (work.bank(), work.store());
-    for entry in work.calls.chunks_exact(3) {
-        let call = Call::of(entry[0], entry[1], entry[2]).expect("a letter of the nine");
-        let answer = bank.step(&mut store, call);
-        let at = LETTERS.iter().position(|&l| u32::from(l) == entry[0]);
+    for record in work.trace.records() {
+        let ran = replay(&mut bank, &mut store, &file_of(&[&[*record]]), 0).ran;
+        let at = LETTERS.iter().position(|&l| l == record[0]);
         let count = &mut counts[at.expect("a letter of the nine")];
-        count.made += 1;
-        count.answered += usize::from(answer.number == 0);
+        count.made += ran.made as usize;
+        count.answered += usize::from(ran.answer.number == 0);
     }
     counts
 }
@@ -34,28 +36,56 @@ pub fn is_mixed_enough(counts: &[Count; 9]) -> bool {
     counts.iter().all(|c| c.answered >= LEAST_ANSWERED)
 }
 
-/// The same count, last answer and store words.
-fn same(work: &Work, variant: &Variant, calls: &[u32]) {
+/// The same count, last answer and store words: with this number and count, by the plain engine.
+fn same(work: &Work, variant: &Variant, file: &[u8], number: u32, made: usize) {
     let (mut plain, mut model) = (work.store(), work.store());
-    let expected = work.run_plain(&mut plain, calls);
-    let given = variant.run(work.cap, &mut model, calls);
-    assert_eq!(given, expected, "{} on {}", variant.name, work.name);
-    assert!(model == plain, "{} on {}", variant.name, work.name);
+    let expected = work.replay_plain(&mut plain, file);
+    let given = variant.replay(work.cap, &mut model, file);
+    let name = format!("{} on {}", variant.name, work.name);
+    assert_eq!(given, expected.ran, "{name}");
+    assert!(model == plain, "{name}");
+    assert_eq!(expected.number, number, "{name}");
+    assert_eq!(expected.ran.made as usize, made, "{name}");
+    assert!(made > 0 || expected.ran == Ran::NONE, "{name}");
 }
 
 /// The list itself; the list and one read of a register more, for each register, which shows what
-/// the list leaves in it; and the list cut by an entry that names no call.
+/// the list leaves in it; the list with a wrong record in its middle, and with a wrong mark.
 pub fn verify(work: &Work) {
+    let count = work.trace.count();
     for variant in &VARIANTS {
-        let mut calls = work.calls.clone();
-        same(work, variant, &calls);
+        let mut trace = work.trace.clone();
+        same(work, variant, trace.file(), 0, count);
         for offset in trace::shown().chain([offset::CMDR, offset::SDI, offset::IBI]) {
-            calls.extend([u32::from(b'R'), 0, u32::from(offset)]);
-            same(work, variant, &calls);
-            calls.truncate(work.calls.len());
+            trace.push(record(b'R', offset, 0, 0));
+            same(work, variant, trace.file(), 0, count + 1);
+            trace.truncate(count);
         }
-        let middle = calls.len() / 6 * 3;
-        calls[middle] = 0;
-        same(work, variant, &calls);
+        trace.replace(count / 2, record(0, 0, 0, 0));
+        same(work, variant, trace.file(), 27, count / 2);
+        let mut file = work.trace.file().to_vec();
+        file[0] = b'i';
+        same(work, variant, &file, 24, 0);
+    }
+}
+
+/// The list with each wrong record in its middle; the greatest right ones behind it; each wrong
+/// file; of two sections the first.
+pub fn verify_wrong(work: &Work) {
+    let records = work.trace.records();
+    let middle = records.len() / 2;
+    for variant in &VARIANTS {
+        for record in wrong::records() {
+            let mut trace = work.trace.clone();
+            trace.replace(middle, record);
+            same(work, variant, trace.file(), 27, middle);
+        }
+        let greatest = [records, &wrong::greatest()].concat();
+        same(work, variant, &file_of(&[&greatest]), 0, greatest.len());
+        for (number, file) in wrong::files(records) {
+            same(work, variant, &file, number, 0);
+        }
+        let (first, second) = records.split_at(middle);
+        same(work, variant, &file_of(&[first, second]), 0, middle);
     }
 }

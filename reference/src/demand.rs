@@ -119,11 +119,7 @@ fn parse_answer(line: &[u8]) -> Option<Answer> {
 }
 
 /// Judges the answers to a script.
-pub fn judge(
-    script: impl BufRead,
-    answers: impl BufRead,
-    mode: Mode,
-) -> Result<Findings, Unusable> {
+fn judge(script: impl BufRead, answers: impl BufRead, mode: Mode) -> Result<Findings, Unusable> {
     let mut script = Lines::new(script, "script");
     let mut answers = Lines::new(answers, "answers");
     let mut count = Count::new();

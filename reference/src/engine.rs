@@ -76,7 +76,7 @@ pub struct SetupNumbers {
 
 /// 01, A session: "Its bank has every capacity 4, almost-empty watermarks 1,
 /// almost-full 3, ID 0." CMD and SDO have the almost-empty watermarks (001).
-pub const SESSION_NUMBERS: SetupNumbers = SetupNumbers {
+pub(crate) const SESSION_NUMBERS: SetupNumbers = SetupNumbers {
     capacities: [4, 4, 4, 4, 4],
     watermarks: [1, 3, 1, 3, 3],
     id: 0,
@@ -537,7 +537,7 @@ impl Bank {
     // Accesses. 01, Numbers: "For accesses: 21, 22, 4, 2, 5, 1, 3."; 02 puts 6 after
     // 4.
 
-    pub fn read(&mut self, offset: u16) -> Answer {
+    pub(crate) fn read(&mut self, offset: u16) -> Answer {
         if !self.is_well_formed() {
             return refuse(NOT_WELL_FORMED);
         }
@@ -643,7 +643,7 @@ impl Bank {
         done(word)
     }
 
-    pub fn write(&mut self, offset: u16, value: u32) -> Answer {
+    pub(crate) fn write(&mut self, offset: u16, value: u32) -> Answer {
         if !self.is_well_formed() {
             return refuse(NOT_WELL_FORMED);
         }
@@ -762,7 +762,7 @@ impl Bank {
 
     /// 01, Start: "5, 6, 8, 9, 15. Takes the whole command; value is its first
     /// word."
-    pub fn start(&mut self, output: &[u32]) -> Answer {
+    pub(crate) fn start(&mut self, output: &[u32]) -> Answer {
         if !self.is_well_formed() {
             return refuse(NOT_WELL_FORMED);
         }
@@ -832,7 +832,7 @@ impl Bank {
     /// 01, Send a byte: "5, 7, 20, 10 (a read or ENTDAA), 11, 12. A word leaves
     /// SDO with its first byte, and only there can 12 arise; bytes past the
     /// length are dropped. Value: the byte." In a burst the bytes lie ready.
-    pub fn send(&mut self, output: &[u32]) -> Answer {
+    pub(crate) fn send(&mut self, output: &[u32]) -> Answer {
         if !self.is_well_formed() {
             return refuse(NOT_WELL_FORMED);
         }
@@ -867,7 +867,7 @@ impl Bank {
 
     /// 01, Receive a byte: "5, 7, 20, 10 (a write or ENTDAA), 11, 13. A word goes
     /// to SDI with its fourth byte; 13 only when that push has no room."
-    pub fn receive(&mut self, byte: u8, output: &[u32]) -> Answer {
+    pub(crate) fn receive(&mut self, byte: u8, output: &[u32]) -> Answer {
         if !self.is_well_formed() {
             return refuse(NOT_WELL_FORMED);
         }
@@ -908,7 +908,7 @@ impl Bank {
     /// room; then nothing is pushed." In a burst, 02: "Read bytes go to a lent output
     /// of words, one per read command at its finish, padded with 0. Burst transfers
     /// queue no receipt (the finish's value is 0)"; "an error code doesn't stop it".
-    pub fn finish(&mut self, code: u8, output: &mut [u32]) -> Answer {
+    pub(crate) fn finish(&mut self, code: u8, output: &mut [u32]) -> Answer {
         if !self.is_well_formed() {
             return refuse(NOT_WELL_FORMED);
         }
@@ -959,7 +959,7 @@ impl Bank {
     /// 01, Interrupt request: "5, 6, 16 (listen 0), 17 (enable 0, or not
     /// attached, or may not interrupt), 13. A device that sends no byte is stored
     /// with 0. Value: the entry."
-    pub fn interrupt_request(&mut self, address: u8, byte: u8, output: &[u32]) -> Answer {
+    pub(crate) fn interrupt_request(&mut self, address: u8, byte: u8, output: &[u32]) -> Answer {
         if !self.is_well_formed() {
             return refuse(NOT_WELL_FORMED);
         }
@@ -1002,7 +1002,7 @@ impl Bank {
 
     /// 01, Address request: "5, 7, 10 (not ENTDAA, or one is open), 13 (SDI room
     /// below 2). Pushes both."
-    pub fn address_request(&mut self, first: u32, second: u32, output: &[u32]) -> Answer {
+    pub(crate) fn address_request(&mut self, first: u32, second: u32, output: &[u32]) -> Answer {
         if !self.is_well_formed() {
             return refuse(NOT_WELL_FORMED);
         }
@@ -1043,7 +1043,7 @@ impl Bank {
     /// 01, Address take: "5, 7, 10 (not ENTDAA, or none open), 12. Bits 31:25 are
     /// the address, the value; bits 31:24 together hold an odd number of ones,
     /// else 19."
-    pub fn address_take(&mut self, output: &[u32]) -> Answer {
+    pub(crate) fn address_take(&mut self, output: &[u32]) -> Answer {
         if !self.is_well_formed() {
             return refuse(NOT_WELL_FORMED);
         }
@@ -1083,7 +1083,7 @@ impl Bank {
 
     /// 02, Refusals: "5 and 6 as for start, then 8 when mode is 0, 28 length field 0,
     /// 29 a command not carried, 13 output shorter than the reads".
-    pub fn trigger(&mut self, output: &[u32]) -> Answer {
+    pub(crate) fn trigger(&mut self, output: &[u32]) -> Answer {
         if !self.is_well_formed() {
             return refuse(NOT_WELL_FORMED);
         }

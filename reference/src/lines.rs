@@ -11,7 +11,7 @@ const OUTPUT_WORDS: usize = 16;
 
 /// What one line asks for.
 #[derive(Clone, Copy, Debug, PartialEq, Eq)]
-pub enum Request {
+pub(crate) enum Request {
     Call(Call),
     SetUp(SetupNumbers),
     /// How many words of the output the events get from now on.
@@ -34,6 +34,39 @@ pub enum Mode {
     /// The lines of 01 and `B`, a set-up; `G`, the trigger; `O`, the words lent to
     /// the events; `P`, a word of the output.
     Test,
+}
+
+/// The letters of 01's lines. 02, section 1, has the same in a record ("the session
+/// letter"), so both readers ask here.
+#[derive(Clone, Copy, Debug, PartialEq, Eq)]
+pub(crate) enum Letter {
+    W,
+    R,
+    S,
+    T,
+    X,
+    F,
+    I,
+    D,
+    A,
+}
+
+impl Letter {
+    pub fn of_byte(byte: u8) -> Option<Letter> {
+        let letter = match byte {
+            b'W' => Letter::W,
+            b'R' => Letter::R,
+            b'S' => Letter::S,
+            b'T' => Letter::T,
+            b'X' => Letter::X,
+            b'F' => Letter::F,
+            b'I' => Letter::I,
+            b'D' => Letter::D,
+            b'A' => Letter::A,
+            _ => return None,
+        };
+        Some(letter)
+    }
 }
 
 /// The longest line that can be a request: `B` and eleven fields of eight digits.
@@ -66,31 +99,34 @@ fn parse_byte(field: &[u8]) -> Option<u8> {
 
 /// 01: "one space between fields"; the line comes without its newline.
 fn parse_call(fields: &[&[u8]]) -> Option<Call> {
-    let call = match fields {
-        [b"W", offset, value] => Call::Write {
+    let [[letter], arguments @ ..] = fields else {
+        return None;
+    };
+    let call = match (Letter::of_byte(*letter)?, arguments) {
+        (Letter::W, [offset, value]) => Call::Write {
             offset: parse_offset(offset)?,
             value: parse_word(value)?,
         },
-        [b"R", offset] => Call::Read {
+        (Letter::R, [offset]) => Call::Read {
             offset: parse_offset(offset)?,
         },
-        [b"S"] => Call::Start,
-        [b"T"] => Call::Send,
-        [b"X", byte] => Call::Receive {
+        (Letter::S, []) => Call::Start,
+        (Letter::T, []) => Call::Send,
+        (Letter::X, [byte]) => Call::Receive {
             byte: parse_byte(byte)?,
         },
-        [b"F", code] => Call::Finish {
+        (Letter::F, [code]) => Call::Finish {
             code: parse_byte(code)?,
         },
-        [b"I", address, byte] => Call::InterruptRequest {
+        (Letter::I, [address, byte]) => Call::InterruptRequest {
             address: parse_byte(address)?,
             byte: parse_byte(byte)?,
         },
-        [b"D", first, second] => Call::AddressRequest {
+        (Letter::D, [first, second]) => Call::AddressRequest {
             first: parse_word(first)?,
             second: parse_word(second)?,
         },
-        [b"A"] => Call::AddressTake,
+        (Letter::A, []) => Call::AddressTake,
         _ => return None,
     };
     Some(call)
@@ -145,7 +181,7 @@ fn parse_test_line(fields: &[&[u8]]) -> Option<Request> {
 }
 
 /// 01: "other lines are skipped": those give no request.
-pub fn parse_line(line: &[u8], mode: Mode) -> Option<Request> {
+pub(crate) fn parse_line(line: &[u8], mode: Mode) -> Option<Request> {
     let fields: Vec<&[u8]> = line.split(|byte| *byte == b' ').collect();
     if let Some(call) = parse_call(&fields) {
         return Some(Request::Call(call));
@@ -156,10 +192,35 @@ pub fn parse_line(line: &[u8], mode: Mode) -> Option<Request> {
     }
 }
 
+/// The bytes of an answer's line: eight digits, a space, two digits, the newline.
+pub(crate) const LINE_BYTES: usize = 8 + 1 + 2 + 1;
+
 /// 01: "prints the value in eight lower-case hex digits, a space and the number
-/// in two decimal digits".
-pub fn print_answer(answer: Answer, output: &mut impl Write) -> io::Result<()> {
-    writeln!(output, "{:08x} {:02}", answer.value, answer.number)
+/// in two decimal digits". By hand and in its place, as `write!` takes longer than most
+/// calls.
+pub(crate) fn put_answer(answer: Answer, line: &mut [u8; LINE_BYTES]) {
+    debug_assert!(answer.number < 100);
+    let digit = |value: u8| b"0123456789abcdef"[usize::from(value)];
+    let (pairs, _) = line.as_chunks_mut();
+    for (pair, byte) in pairs.iter_mut().zip(answer.value.to_be_bytes()) {
+        *pair = [digit(byte >> 4), digit(byte & 0xf)];
+    }
+    line[8] = b' ';
+    line[9] = digit(answer.number / 10);
+    line[10] = digit(answer.number % 10);
+    line[11] = b'\n';
+}
+
+pub(crate) fn print_answer(answer: Answer, output: &mut impl Write) -> io::Result<()> {
+    let mut line = [0; LINE_BYTES];
+    put_answer(answer, &mut line);
+    output.write_all(&line)
+}
+
+/// The bank of a session, as it is before its first line. 02, section 1, has the
+/// same for a replay: "on the session's bank".
+pub(crate) fn session_bank() -> Bank {
+    set_up(&SESSION_NUMBERS).0
 }
 
 /// The state of a program: its bank and the output that it lends to the events.
@@ -174,7 +235,7 @@ impl Program {
     /// more.
     fn new() -> Program {
         Program {
-            bank: set_up(&SESSION_NUMBERS).0,
+            bank: session_bank(),
             output: [u32::MAX; OUTPUT_WORDS],
             lent: 0,
         }
@@ -330,6 +391,19 @@ mod tests {
             assert!(!is_request(line), "{:?}", String::from_utf8_lossy(line));
         }
         assert!(!is_request(b"B 4 4 4 4 4 1 3 1 3 3 0"));
+    }
+
+    /// 01: "the value in eight lower-case hex digits, a space and the number in two
+    /// decimal digits".
+    #[test]
+    fn form_of_an_answer() {
+        for number in 0..100 {
+            for value in [0, 1, 0x0123_4567, 0x89ab_cdef, 0xfedc_ba98, u32::MAX] {
+                let mut line = Vec::new();
+                print_answer(Answer { value, number }, &mut line).unwrap();
+                assert_eq!(line, format!("{value:08x} {number:02}\n").into_bytes());
+            }
+        }
     }
 
     #[test]

@@ -1,17 +1,14 @@
 //! Second program for the host interface of an I3C controller.
 //!
 //! `reference` runs a session from standard input, `reference test` also takes
-//! lines for set-ups and bursts, `reference check` runs the cases marked P,
-//! `reference demand` judges any program's answers to a script by demand 3.
+//! lines for set-ups and bursts, `reference replay` replays a bench trace from
+//! standard input, `reference check` runs the cases marked P, `reference demand`
+//! judges any program's answers to a script by demand 3.
 
 #![forbid(unsafe_code)]
 
-mod cases;
-mod demand;
-mod engine;
-mod lines;
-
-use lines::{run_session, Mode};
+use reference::lines::{run_session, Mode};
+use reference::{cases, demand, trace};
 use std::env;
 use std::io::{self, BufWriter};
 use std::path::Path;
@@ -25,6 +22,13 @@ fn run_input(mode: Mode) -> ExitCode {
         Ok(()) => ExitCode::SUCCESS,
         Err(_) => ExitCode::FAILURE,
     }
+}
+
+/// Exit status 0 always: what is wrong with the trace stands in the last line, and an
+/// output that can't be written ends the program quietly.
+fn run_replay() -> ExitCode {
+    let _ = trace::run_replay(io::stdin().lock(), &mut io::stdout().lock());
+    ExitCode::SUCCESS
 }
 
 fn run_check() -> ExitCode {
@@ -64,6 +68,7 @@ fn run_demand(script: &Path, answers: &Path, mode: Mode) -> ExitCode {
 const USAGE: &str = "\
 usage: reference                             answers the session on standard input
        reference test                        the same, set-up and burst lines too
+       reference replay                      replays the bench trace on standard input
        reference check                       runs the cases marked P
        reference demand SCRIPT ANSWERS       judges answers to a session by demand 3
        reference demand SCRIPT ANSWERS test  the same, set-up and burst lines too";
@@ -73,6 +78,7 @@ fn main() -> ExitCode {
     match arguments.as_slice() {
         [] => run_input(Mode::Session),
         [word] if word == "test" => run_input(Mode::Test),
+        [word] if word == "replay" => run_replay(),
         [word] if word == "check" => run_check(),
         [word, script, answers] if word == "demand" => {
             run_demand(Path::new(script), Path::new(answers), Mode::Session)

@@ -1,4 +1,7 @@
-//! The nine calls, and how three numbers name one.
+//! The nine calls, and how a record of a trace names one.
+
+/// The bytes of a record.
+pub const RECORD: usize = 12;
 
 #[derive(Clone, Copy, Debug, PartialEq, Eq)]
 pub enum Call {
@@ -14,29 +17,40 @@ pub enum Call {
 }
 
 impl Call {
-    /// A session line's letter, then its field before the last and its last, cut to their width.
-    pub fn of(letter: u32, v: u32, w: u32) -> Option<Call> {
-        let call = match u8::try_from(letter).ok()? {
-            b'R' => Call::Read { offset: w as u16 },
-            b'W' => Call::Write {
-                offset: v as u16,
-                value: w,
-            },
-            b'S' => Call::Start,
-            b'T' => Call::Send,
-            b'X' => Call::Receive { byte: w as u8 },
-            b'F' => Call::Finish { code: w as u8 },
-            b'I' => Call::Interrupt {
-                address: v as u8,
-                byte: w as u8,
-            },
-            b'D' => Call::Request {
-                first: v,
-                second: w,
-            },
-            b'A' => Call::Take,
+    /// The call that a record names, if the record is right. Each letter gathers what must be 0, its
+    /// unused fields and the bits above a byte, for one test of all.
+    pub fn of(record: &[u8; RECORD]) -> Option<Call> {
+        let &[letter, zero, o0, o1, a0, a1, a2, a3, b0, b1, b2, b3] = record;
+        let offset = u16::from_le_bytes([o0, o1]);
+        let first = u32::from_le_bytes([a0, a1, a2, a3]);
+        let second = u32::from_le_bytes([b0, b1, b2, b3]);
+        // The offset, for a letter that has none.
+        let unused = u32::from(offset);
+        let (call, rest) = match letter {
+            b'R' => (Call::Read { offset }, first | second),
+            b'W' => {
+                let value = first;
+                (Call::Write { offset, value }, second)
+            }
+            b'S' => (Call::Start, unused | first | second),
+            b'T' => (Call::Send, unused | first | second),
+            b'X' => {
+                let byte = first as u8;
+                (Call::Receive { byte }, unused | first >> 8 | second)
+            }
+            b'F' => {
+                let code = first as u8;
+                (Call::Finish { code }, unused | first >> 8 | second)
+            }
+            b'I' => {
+                let (address, byte) = (first as u8, second as u8);
+                let above = first >> 8 | second >> 8;
+                (Call::Interrupt { address, byte }, unused | above)
+            }
+            b'D' => (Call::Request { first, second }, unused),
+            b'A' => (Call::Take, unused | first | second),
             _ => return None,
         };
-        Some(call)
+        (u32::from(zero) | rest == 0).then_some(call)
     }
 }

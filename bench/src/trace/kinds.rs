@@ -12,6 +12,7 @@
 //! | D | an assignment: request, SDO word, take, until SDI is full; a reset | 1/3 |
 //! | A | the same, with one take in five answered 19 | 1/3 |
 
+use super::file::Trace;
 use super::{command, List, CCC, ENTDAA, FIRST_DEVICE, READ, UNATTACHED};
 use crate::plain::offset;
 
@@ -112,7 +113,7 @@ impl List {
     }
 }
 
-pub fn list(letter: u8, cap: u32, count: usize, seed: u64) -> Vec<u32> {
+pub fn list(letter: u8, cap: u32, count: usize, seed: u64) -> Trace {
     let list = List::new(cap, seed);
     match letter {
         b'W' => list.rounds(count, List::only_writes),

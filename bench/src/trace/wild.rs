@@ -1,5 +1,6 @@
 //! A list for the comparison of engines: calls of any kind in any order, many of them refused.
 
+use super::file::Trace;
 use super::{command, List, ENTDAA, FIRST_DEVICE};
 use crate::plain::offset;
 
@@ -54,20 +55,20 @@ impl List {
             0..=9 => self.any_write(),
             10..=14 => self.any_read(),
             15..=18 => self.start(),
-            19..=20 => self.call(b'T', 0, 0),
-            21..=22 => self.call(b'X', 0, w % 256),
-            23..=26 => self.call(
+            19..=20 => self.event(b'T', 0, 0),
+            21..=22 => self.event(b'X', w % 256, 0),
+            23..=26 => self.event(
                 b'F',
-                0,
                 [0, 0, 1, 4, 6, 8, v % 16, v % 256][(w % 8) as usize],
+                0,
             ),
-            27..=28 => self.call(b'I', 8 + v % 8 + w / 8 % 16 / 15 * 120, w % 256),
-            29..=30 => self.call(b'D', v, w),
-            _ => self.call(b'A', 0, 0),
+            27..=28 => self.event(b'I', 8 + v % 8 + w / 8 % 16 / 15 * 120, w % 256),
+            29..=30 => self.event(b'D', v, w),
+            _ => self.event(b'A', 0, 0),
         }
     }
 }
 
-pub fn list(count: usize, seed: u64) -> Vec<u32> {
+pub fn list(count: usize, seed: u64) -> Trace {
     List::new(4, seed).rounds(count, List::any_call)
 }

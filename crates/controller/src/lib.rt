@@ -246,7 +246,7 @@ fn serve(
 }
 
 // Any call on a state and its lent tables, where the number of the two tests is known: a layer, no interface. It is for
-// lists of calls: no call changes what the two tests say.
+// replays: no call changes what the two tests say.
 pub fn step_parts(
     st: State,
     flags: &mut [u8; 128],

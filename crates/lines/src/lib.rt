@@ -242,8 +242,8 @@ pub fn run(b: Bank, store: &mut [u32], output: &mut [u32], line: Reading) -> Ran
     }
 }
 
-// The bytes of a line, into the text from a place on.
-fn put(out: &mut [u8], at: usize, text: [u8; 12])
+// The bytes of a line, into the text from a place on: a layer, no interface.
+pub fn put(out: &mut [u8], at: usize, text: [u8; 12])
     requires { ⌜ at + 12 ≤ length (now out) ⌝ }
     ensures { λ _. ⌜ take (at + 12) (now (out .exit)) ≡ take at (now (out .entry)) ++ text ⌝ }
 {

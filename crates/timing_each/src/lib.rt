@@ -1,5 +1,5 @@
-// What the benchmark times: a list of calls by a call in place for each. The bank lives inside the exported function,
-// which can take no reference that leads to an enum.
+// What the benchmark times: a section of a trace by a call in place for each record. The bank lives inside the exported
+// function, which can take no reference that leads to an enum.
 ghost use mathlib.Core.Path.{_≡_};
 ghost use Rattle.model.specs.Engine.{step};
 ghost use Rattle.model.specs.Rings.{rings};
@@ -22,27 +22,28 @@ fn step_once(b: Bank, call: Call, store: &mut [u32], output: &mut [u32]) -> Out
     }
 }
 
-// Makes the calls of a list on a bank with every capacity `cap`, up to the first three numbers that name none, and gives
-// how many it made. Every call is lent an empty output.
+// Replays section 0 of a trace on a bank with every capacity `cap`, up to the first wrong record, and gives how many
+// records it did. Every call is lent an empty output.
 #[no_mangle]
-pub extern "C" fn run_each(cap: u32, store: &mut [u32], calls: &[u32], last: &mut [u32]) -> u32 {
+pub extern "C" fn replay_each(cap: u32, store: &mut [u32], file: &[u8], last: &mut [u32]) -> u32 {
     let mut bank = timing::fresh(cap);
     let mut a = Answer {
         value: 0,
         number: 0,
     };
-    let mut made: usize = 0;
+    let mut done: usize = 0;
     let mut none = [0u32; 0];
-    for i in 0..calls.len() / 3 {
-        let named = run::entry(calls, i);
+    let records = trace::section(file, 0);
+    for i in 0..records.len() / 12 {
+        let named = record::at(records, i);
         let Parsed::Named(call) = named else {
             break;
         };
-        made = i + 1;
+        done = i + 1;
         let out = step_once(bank, call, store, &mut none);
         bank = out.bank;
         a = out.answer;
     }
     timing::keep(last, a);
-    (made % 4294967296) as u32
+    (done % 4294967296) as u32
 }

@@ -1,36 +1,36 @@
-// What the benchmark times: a list of calls by one call in place. The bank lives inside the exported function, which can
-// take no reference that leads to an enum. A crate of its own: the loop is then the only caller of the step, and has it
-// inlined.
+// What the benchmark times: a section of a trace by one call in place. The bank lives inside the exported function, which
+// can take no reference that leads to an enum. A crate of its own: the loop is then the only caller of the step, and has
+// it inlined.
 ghost use mathlib.Core.Path.{_≡_};
 ghost use mathlib.Core.List.{[]};
 ghost use Prim.Native.Nat.{_%_, _^_};
 ghost use lib.ListN.{length};
 ghost use Rattle.answer.specs.Given.{controller};
-ghost use Rattle.run.specs.Run.{ranOut, runOf};
+ghost use Rattle.playback.specs.Replay.{replayOf, replayedOut};
 ghost use Rattle.timing.specs.Timing.{freshOf, keptIn};
 use bank::Bank;
-use run::RunOut;
+use playback::Replayed;
 
-// The list in place on a bank in a local. Whoever calls this needs no walk.
-fn run_once(b: Bank, store: &mut [u32], calls: &[u32], limit: usize) -> RunOut
-    ensures { λ r. ⌜ ranOut r (now (store .exit)) ≡ runOf limit (now (calls .entry)) (controller b (now (store .entry)) []) ⌝ }
+// The section in place on a bank in a local. Whoever calls this needs no walk.
+fn replay_once(b: Bank, store: &mut [u32], file: &[u8], i: u32, limit: usize) -> Replayed
+    ensures { λ r. ⌜ replayedOut r (now (store .exit)) ≡ replayOf (now (file .entry)) i limit (controller b (now (store .entry)) []) ⌝ }
 {
     let mut bank = b;
-    let made = run::run_in_place(&mut bank, store, calls, limit);
-    RunOut {
+    let told = playback::replay_in_place(&mut bank, store, file, i, limit);
+    Replayed {
         bank: bank,
-        made: made,
+        told: told,
     }
 }
 
-// Makes the calls of a list on a bank with every capacity `cap`, and gives how many it made.
+// Replays section 0 of a trace on a bank with every capacity `cap`, and gives how many records it did.
 #[no_mangle]
-pub extern "C" fn run_list(cap: u32, store: &mut [u32], calls: &[u32], last: &mut [u32]) -> u32
-    ensures { λ n. ⌜ (let c = runOf (length (now (calls .entry))) (now (calls .entry)) (controller (freshOf cap) (now (store .entry)) []) in (n ≡ c .count % 2 ^ 32) × (now (store .exit) ≡ c .left .store) × (now (last .exit) ≡ keptIn (now (last .entry)) (c .answer))) ⌝ }
+pub extern "C" fn replay_trace(cap: u32, store: &mut [u32], file: &[u8], last: &mut [u32]) -> u32
+    ensures { λ n. ⌜ (let r = replayOf (now (file .entry)) 0 (length (now (file .entry))) (controller (freshOf cap) (now (store .entry)) []) in (n ≡ r .told .count % 2 ^ 32) × (now (store .exit) ≡ r .left .store) × (now (last .exit) ≡ keptIn (now (last .entry)) (r .told .answer))) ⌝ }
 {
     let bank = timing::fresh(cap);
-    let out = run_once(bank, store, calls, calls.len());
-    let answer = out.made.answer;
+    let out = replay_once(bank, store, file, 0, file.len());
+    let answer = out.told.answer;
     timing::keep(last, answer);
-    (out.made.count % 4294967296) as u32
+    (out.told.count % 4294967296) as u32
 }

@@ -1,3 +1,4 @@
 pub mod Table
 pub mod Sections
 pub mod Worked
+pub mod Heads

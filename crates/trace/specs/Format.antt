@@ -5,7 +5,7 @@ use mathlib.Core.List.{List, [], _∷_}
 use lib.Dec.{eqb, ltb, leb}
 use lib.ListN.{length, getD, take, drop}
 
--- "the four bytes I3TR"
+-- "the four bytes `I3TR`"
 abbrev pub mark : List ℕ
 mark = 0x49 ∷ 0x33 ∷ 0x54 ∷ 0x52 ∷ []
 

@@ -1,7 +1,8 @@
-// A trace file of 02: its format, and the look-up of a section.
+// A trace file of 02: its format, the look-up of a section, and what the first bytes tell.
 ghost use mathlib.Core.Path.{_≡_};
 ghost use Prim.Native.Nat.{_+_, _*_, _<_, _≤_};
 ghost use lib.ListN.{length};
+ghost use Rattle.trace.specs.Head.{tableTold, countTold, headOf};
 ghost use Rattle.trace.specs.Format.{mark, opens, twoAt, fourAt, sections, startAt, countAt, placeOf, startsRight, tableRight, fault, lookNumber, sectionStart, section};
 
 // Whether the file opens with the mark.
@@ -21,8 +22,8 @@ fn wide(x: u8) -> u32
     x as u32
 }
 
-// The numbers of two and of four bytes at a place.
-fn two_at(file: &[u8], at: usize) -> u32
+// The numbers of two and of four bytes at a place: layers, no interface.
+pub fn two_at(file: &[u8], at: usize) -> u32
     requires { ⌜ at + 2 ≤ length (now file) ⌝ }
     ensures { λ r. ⌜ (r ≡ twoAt (now (file .entry)) at) × (r < 65536) ⌝ }
 {
@@ -31,7 +32,7 @@ fn two_at(file: &[u8], at: usize) -> u32
     low + 256 * high
 }
 
-fn four_at(file: &[u8], at: usize) -> u32
+pub fn four_at(file: &[u8], at: usize) -> u32
     requires { ⌜ at + 4 ≤ length (now file) ⌝ }
     ensures { λ r. ⌜ r ≡ fourAt (now (file .entry)) at ⌝ }
 {
@@ -144,4 +145,65 @@ pub fn section(file: &[u8], i: u32) -> &[u8]
     let start = start_at(file, i);
     let end = past(start as u64, count_at(file, i));
     &file[start as usize..end as usize]
+}
+
+// What the first bytes of a file tell.
+pub enum Head {
+    // More must come.
+    More,
+    // The file is refused with this number.
+    Wrong(u32),
+    // How long mark and table are, and how many records follow.
+    Right(usize, usize),
+}
+
+// The table, all of it there.
+fn table_told(bytes: &[u8], n: u32) -> Head
+    requires { ⌜ (n ≡ sections (now bytes)) × (n ≤ 64) × (6 + 8 * n ≤ length (now bytes)) ⌝ }
+    ensures { λ r. ⌜ r ≡ tableTold (now (bytes .entry)) ⌝ }
+{
+    let t = walk(bytes, n);
+    let end = t.end;
+    if !t.right {
+        return Head::Wrong(25);
+    }
+    if 0x100_0000 < end {
+        return Head::Wrong(25);
+    }
+    let len = 6 + 8 * (n as usize);
+    Head::Right(len, (end as usize - len) / 12)
+}
+
+// The count of sections, and what follows it.
+fn count_told(bytes: &[u8]) -> Head
+    requires { ⌜ 6 ≤ length (now bytes) ⌝ }
+    ensures { λ r. ⌜ r ≡ countTold (now (bytes .entry)) ⌝ }
+{
+    let n = two_at(bytes, 4);
+    if n < 1 {
+        return Head::Wrong(25);
+    }
+    if 64 < n {
+        return Head::Wrong(25);
+    }
+    if bytes.len() < 6 + 8 * (n as usize) {
+        return Head::More;
+    }
+    table_told(bytes, n)
+}
+
+// What the bytes of a file tell of it, as far as they go.
+pub fn read_head(bytes: &[u8]) -> Head
+    ensures { λ r. ⌜ r ≡ headOf (now (bytes .entry)) ⌝ }
+{
+    if bytes.len() < 4 {
+        return Head::More;
+    }
+    if !marked(bytes) {
+        return Head::Wrong(24);
+    }
+    if bytes.len() < 6 {
+        return Head::More;
+    }
+    count_told(bytes)
 }

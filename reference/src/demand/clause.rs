@@ -107,13 +107,13 @@ pub struct Findings {
 
 impl Findings {
     /// The script's line of the call judged next.
-    pub fn set_line(&mut self, line: u64) {
+    pub(super) fn set_line(&mut self, line: u64) {
         self.line = line;
     }
 
     /// Judges a clause at the present line. `text` says what was expected and what
     /// was seen.
-    pub fn judge(&mut self, clause: Clause, kept: bool, text: impl FnOnce() -> String) {
+    pub(super) fn judge(&mut self, clause: Clause, kept: bool, text: impl FnOnce() -> String) {
         let finding = &mut self.findings[clause as usize];
         finding.cases += 1;
         if !kept && finding.violation.is_none() {
@@ -124,7 +124,7 @@ impl Findings {
         }
     }
 
-    pub fn violation(&self, clause: Clause) -> Option<&Violation> {
+    pub(super) fn violation(&self, clause: Clause) -> Option<&Violation> {
         self.findings[clause as usize].violation.as_ref()
     }
 

@@ -1,0 +1,45 @@
+-- `playback::replay` meets its contract.
+use borrow.Author.Needs.{needs}
+use mathlib.Core.Path.{sym, _∙_}
+use mathlib.Core.List.{[]}
+use Rattle.answer.specs.Given.{controller}
+use Rattle.playback.proofs.Laws.{refuses, plays}
+use Rattle.playback.proofs.replay.Statement.{statement}
+use Rattle.playback.proofs.replay.Tie as tie
+
+look-up-requires : tie.Need-look-up-requires
+look-up-requires c κs = search needs
+
+refused-requires : tie.Need-refused-requires
+refused-requires c κs = search needs
+
+returns : tie.Need-returns
+returns c =
+    let a = c .before .before .before .before .before .args in
+    c .refused .ensures _ ∙ refuses (a .file .now) (a .i) (a .limit) (controller (a .b) (a .store .now) []) (c .before .before .look-up .result) (c .before .before .look-up .ensures) (c .before .if1 .taken)
+
+section-requires : tie.Need-section-requires
+section-requires c κs = search needs
+
+play-requires : tie.Need-play-requires
+play-requires c κs = search needs
+
+same-length : tie.Need-same-length
+same-length c = search needs
+
+returns-2 : tie.Need-returns-2
+returns-2 c =
+    let a = c .before .before .before .before .before .before .before .before .before .args in
+    c .before .before .play .ensures ∙ plays (a .file .now) (a .i) (a .limit) (controller (a .b) (a .store .now) []) _ (c .before .before .before .before .section .ensures .0) (sym (c .before .before .before .before .before .before .look-up .ensures) ∙ c .before .before .before .before .before .if1 .left)
+
+pub replay-spec : {M : Type 1} → statement M
+replay-spec =
+    tie.close
+    (tie.spec
+    look-up-requires
+    refused-requires
+    returns
+    section-requires
+    play-requires
+    same-length
+    returns-2)

@@ -1,0 +1,79 @@
+// Records of a trace, 02 §1: which call one names.
+ghost use mathlib.Core.Path.{_≡_};
+ghost use mathlib.Core.Bool.{cond};
+ghost use Prim.Native.Nat.{_+_, _*_, _<_, _≤_};
+ghost use lib.ListN.{length};
+ghost use Rattle.lines.specs.declared.Parsed.the-variants.{Skipped};
+ghost use Rattle.lines.specs.Forms.{formOf};
+ghost use Rattle.record.specs.Record.{rec, namedIn, recordAt, within};
+use lines::Parsed;
+
+// What a record names if it is right.
+fn when(right: bool, p: Parsed) -> Parsed
+    ensures { λ r. ⌜ r ≡ cond right p Skipped ⌝ }
+{
+    if right {
+        return p;
+    }
+    Parsed::Skipped
+}
+
+// The call of a record, by its fields.
+fn named(letter: u8, zero: u8, offset: u32, v: u32, w: u32) -> Parsed
+    requires { ⌜ offset < 65536 ⌝ }
+    ensures { λ p. ⌜ p ≡ namedIn (formOf letter) (rec letter zero offset v w) ⌝ }
+{
+    let z = zero == 0;
+    match letter {
+        b'W' => when(z & (w == 0), lines::call(b'W', offset, v)),
+        b'R' => when(z & ((v == 0) & (w == 0)), lines::call(b'R', 0, offset)),
+        b'S' => when(
+            z & ((offset == 0) & ((v == 0) & (w == 0))),
+            lines::call(b'S', 0, 0),
+        ),
+        b'T' => when(
+            z & ((offset == 0) & ((v == 0) & (w == 0))),
+            lines::call(b'T', 0, 0),
+        ),
+        b'X' => when(
+            z & ((offset == 0) & ((v < 256) & (w == 0))),
+            lines::call(b'X', 0, v),
+        ),
+        b'F' => when(
+            z & ((offset == 0) & ((v < 256) & (w == 0))),
+            lines::call(b'F', 0, v),
+        ),
+        b'I' => when(
+            z & ((offset == 0) & ((v < 256) & (w < 256))),
+            lines::call(b'I', v, w),
+        ),
+        b'D' => when(z & (offset == 0), lines::call(b'D', v, w)),
+        b'A' => when(
+            z & ((offset == 0) & ((v == 0) & (w == 0))),
+            lines::call(b'A', 0, 0),
+        ),
+        _ => Parsed::Skipped,
+    }
+}
+
+// The call of record i of a section: a layer, no interface.
+pub fn at(records: &[u8], i: usize) -> Parsed
+    requires { ⌜ 12 * i + 12 ≤ length (now records) ⌝ }
+    ensures { λ p. ⌜ p ≡ recordAt (now (records .entry)) i ⌝ }
+{
+    let start = 12 * i;
+    let letter = records[start];
+    let zero = records[start + 1];
+    let offset = trace::two_at(records, start + 2);
+    let v = trace::four_at(records, start + 4);
+    let w = trace::four_at(records, start + 8);
+    named(letter, zero, offset, v, w)
+}
+
+// How many whole records so many bytes have, up to a limit.
+pub fn whole(limit: usize, bytes: &[u8]) -> usize
+    ensures { λ n. ⌜ (n ≡ within limit (now (bytes .entry))) × (12 * n ≤ length (now (bytes .entry))) ⌝ }
+{
+    let n = bytes.len() / 12;
+    if limit < n { limit } else { n }
+}

@@ -1,0 +1,96 @@
+-- `replay::turn` is safe and ends.
+use Prim.Native.Nat.{_≤_}
+use native.Mathlib.Omega.{arith}
+use mathlib.Core.Path.{_≡_}
+use lib.ListN.{length, length-take}
+use lib.Seq.{length-take-le}
+use borrow.Author.Needs.{needs}
+use Rattle.replay.proofs.turn.Statement.{statement}
+use Rattle.replay.proofs.turn.Tie as tie
+
+fill-requires : tie.Need-fill-requires
+fill-requires c κs = search needs
+
+same-length : tie.Need-same-length
+same-length c = search needs
+
+returns : tie.Need-returns
+returns c = search needs
+
+slice-reshare-prefix-feed : tie.Need-slice-reshare-prefix-feed
+slice-reshare-prefix-feed c = search needs
+
+slice-aggregate-feed : tie.Need-slice-aggregate-feed
+slice-aggregate-feed c = simp length-take (omega (arith, c .before .before .before .before .before .fill .ensures .1))
+
+feed-requires : tie.Need-feed-requires
+feed-requires c κs =
+    let a = c .before .before .before .before .before .before .before .before .before .before .before in
+    let f = c .before .before .before .before .before .before .fill in
+    let kept : length (f .last .0) ≡ length (a .args .buf .now) = search needs in
+    let long = length-take-le (f .result) (f .last .0) (f .ensures .1) in
+    omega (arith, long, kept, f .ensures .1, a .pre .1, a .pre .2)
+
+slice-reshare-prefix-write-all : tie.Need-slice-reshare-prefix-write-all
+slice-reshare-prefix-write-all c = search needs
+
+slice-aggregate-write-all : tie.Need-slice-aggregate-write-all
+slice-aggregate-write-all c = simp length-take (omega (arith, c .before .before .before .before .before .feed .ensures .1))
+
+write-all-requires : tie.Need-write-all-requires
+write-all-requires c κs = search needs
+
+sub-rest : tie.Need-sub-rest
+sub-rest c =
+    let a = c .before .before .before .before .before .before .before .before .before .before .before .before .before .before .before .before .before .before in
+    let f = c .before .before .before .before .before .before .before .before .before .before .before .before .before .fill in
+    let kept : length (f .last .0) ≡ length (a .args .buf .now) = search needs in
+    let long = length-take-le (f .result) (f .last .0) (f .ensures .1) in
+    omega (arith, long, c .before .before .before .before .before .before .feed .ensures .2)
+
+shift-requires : tie.Need-shift-requires
+shift-requires c κs =
+    let a = c .before .before .before .before .before .before .before .before .before .before .before .before .before .before .before .before .before .before .before in
+    let f = c .before .before .before .before .before .before .before .before .before .before .before .before .before .before .fill in
+    let kept : length (f .last .0) ≡ length (a .args .buf .now) = search needs in
+    let long = length-take-le (f .result) (f .last .0) (f .ensures .1) in
+    omega (arith, long, f .ensures .1, c .before .before .before .before .before .before .before .feed .ensures .2)
+
+over-requires : tie.Need-over-requires
+over-requires c κs = search needs
+
+same-length-2 : tie.Need-same-length-2
+same-length-2 c = search needs
+
+same-length-3 : tie.Need-same-length-3
+same-length-3 c = search needs
+
+same-length-4 : tie.Need-same-length-4
+same-length-4 c = search needs
+
+returns-2 : tie.Need-returns-2
+returns-2 c =
+    let f = c .before .before .before .before .before .before .before .before .before .before .before .before .before .before .before .before .before .before .before .fill in
+    let long = length-take-le (f .result) (f .last .0) (f .ensures .1) in
+    omega (arith, long, c .before .before .before .before .before .before .before .before .before .before .before .before .feed .ensures .3, c .before .before .before .before .before .before .before .before .before .before .before .before .feed .ensures .2)
+
+pub turn-spec : {M : Type 1} → statement M
+turn-spec =
+    tie.close
+    (tie.spec
+    fill-requires
+    same-length
+    returns
+    slice-reshare-prefix-feed
+    slice-aggregate-feed
+    feed-requires
+    slice-reshare-prefix-write-all
+    slice-aggregate-write-all
+    write-all-requires
+    sub-rest
+    shift-requires
+    over-requires
+    same-length-2
+    same-length-3
+    same-length-4
+    returns-2)

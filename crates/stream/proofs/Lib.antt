@@ -1,0 +1,6 @@
+pub mod Text
+pub mod Prefix
+pub mod Runs
+pub mod Cutting
+pub mod Inputs
+pub mod Whole

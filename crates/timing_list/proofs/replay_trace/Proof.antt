@@ -1,0 +1,48 @@
+-- `timing_list::replay_trace` meets its contract.
+use Prim.Native.Nat.{_%_, _^_}
+use mathlib.Core.Path.{ap, _∙_}
+use mathlib.Core.List.{[]}
+use lib.ListN.{length}
+use Rattle.bank.specs.declared.Bank.{Bank}
+use Rattle.answer.specs.Given.{controller}
+use Rattle.playback.specs.Replay.{Replay, replayOf}
+use Rattle.timing.specs.Timing.{keptIn}
+use borrow.Author.Needs.{needs}
+use Rattle.timing_list.proofs.replay_trace.Statement.{statement}
+use Rattle.timing_list.proofs.replay_trace.Tie as tie
+
+fresh-requires : tie.Need-fresh-requires
+fresh-requires c κs = search needs
+
+replay-once-requires : tie.Need-replay-once-requires
+replay-once-requires c κs = search needs
+
+keep-requires : tie.Need-keep-requires
+keep-requires c κs = search needs
+
+cast-result : tie.Need-cast-result
+cast-result c = search needs
+
+same-length : tie.Need-same-length
+same-length c = search needs
+
+same-length-2 : tie.Need-same-length-2
+same-length-2 c = search needs
+
+returns : tie.Need-returns
+returns c =
+    let a = c .before .before .before .before .before .before .before .before .before .before .before .before .before .before .args in
+    let e = c .before .before .before .before .before .before .before .before .replay-once .ensures ∙ ap (λ (b : Bank). replayOf (a .file .now) 0 (length (a .file .now)) (controller b (a .store .now) [])) (c .before .before .before .before .before .before .before .before .before .before .fresh .ensures) in
+    (ap (λ (x : Replay). x .told .count % 2 ^ 32) e, ap (λ (x : Replay). x .left .store) e, c .before .before .before .keep .ensures ∙ ap (λ (x : Replay). keptIn (a .last .now) (x .told .answer)) e)
+
+pub replay-trace-spec : {M : Type 1} → statement M
+replay-trace-spec =
+    tie.close
+    (tie.spec
+    fresh-requires
+    replay-once-requires
+    keep-requires
+    cast-result
+    same-length
+    same-length-2
+    returns)

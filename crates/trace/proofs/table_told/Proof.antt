@@ -1,0 +1,38 @@
+-- `trace::table_told` meets its contract.
+use borrow.Author.Needs.{needs}
+use mathlib.Core.Path.{refl}
+use Rattle.trace.proofs.Heads.{starts-wrong, too-large, table-right}
+use Rattle.trace.proofs.table_told.Statement.{statement}
+use Rattle.trace.proofs.table_told.Tie as tie
+
+walk-requires : tie.Need-walk-requires
+walk-requires c κs = search needs
+
+returns : tie.Need-returns
+returns c =
+    let a = c .before .before .before .before in
+    starts-wrong (a .args .bytes .now) (a .args .n) (a .pre .0) _ (c .before .before .walk .ensures .0) (c .if1 .taken)
+
+returns-2 : tie.Need-returns-2
+returns-2 c =
+    let a = c .before .before .before .before .before in
+    too-large (a .args .bytes .now) (a .args .n) (a .pre .0) _ (c .before .before .before .walk .ensures .1) (c .if2 .taken)
+
+mul-len : tie.Need-mul-len
+mul-len c = search needs
+
+add-len : tie.Need-add-len
+add-len c = search needs
+
+sub-t8 : tie.Need-sub-t8
+sub-t8 c = search needs
+
+returns-3 : tie.Need-returns-3
+returns-3 c =
+    let a = c .before .before .before .before .before in
+    let w = c .before .before .before .walk in
+    table-right (a .args .bytes .now) (a .args .n) (a .pre .0) _ _ _ (w .ensures .0) (c .before .if1 .left) (w .ensures .1) (c .if2 .left) refl
+
+pub table-told-spec : {M : Type 1} → statement M
+table-told-spec =
+    tie.close (tie.spec walk-requires returns returns-2 mul-len add-len sub-t8 returns-3)

@@ -1,0 +1,12 @@
+//! The parts of the second program for the host interface of an I3C controller: the
+//! engine, its lines, its traces, the checker of demand 3 and the cases marked P.
+//!
+//! Public is what the program (`main.rs`) and the tests of `bench/` use.
+
+#![forbid(unsafe_code)]
+
+pub mod cases;
+pub mod demand;
+pub mod engine;
+pub mod lines;
+pub mod trace;

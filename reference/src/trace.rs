@@ -1,0 +1,294 @@
+//! Bench traces: the file's form, its sections, its records, and their replay.
+//!
+//! "02" is section 1 of the change requests here. The program reads a trace as it
+//! comes, so that it can do the records before a wrong length; the other public
+//! functions have the whole file before them and look at its length first.
+
+use crate::engine::{Answer, Bank, Call};
+use crate::lines::{print_answer, put_answer, session_bank, Letter, LINE_BYTES};
+use std::io::{self, ErrorKind, Read, Write};
+
+// 02, Refusals.
+const WRONG_MARK: u8 = 24;
+const WRONG_CONTENTS: u8 = 25;
+const NO_SUCH_SECTION: u8 = 26;
+const WRONG_RECORD: u8 = 27;
+
+/// 02: "It opens with the four bytes `I3TR`".
+const MARK: &[u8; 4] = b"I3TR";
+/// 02: "a 16-bit section count (1 to 64)"; with the mark before it.
+const HEAD_BYTES: usize = MARK.len() + 2;
+const MOST_SECTIONS: usize = 64;
+/// 02: "per section a 32-bit start in file bytes and a 32-bit record count".
+const ENTRY_BYTES: usize = 8;
+/// 02: "A record is 12 bytes".
+const RECORD_BYTES: usize = 12;
+/// 02: "file above 16 MiB".
+const MOST_FILE_BYTES: u64 = 16 << 20;
+
+/// What the program reads, and prints, at once: whole records, whole lines. 02:
+/// "with buffers within 64 KiB"; these two have 24 KiB each, and those of the standard
+/// streams, 8 KiB and 1 KiB, come on top.
+const BATCH_RECORDS: usize = 2048;
+
+// The file's form. 02: "little-endian throughout".
+
+/// One row of the contents.
+struct Entry {
+    start: u32,
+    count: u32,
+}
+
+fn parse_entry(&[s0, s1, s2, s3, c0, c1, c2, c3]: &[u8; ENTRY_BYTES]) -> Entry {
+    Entry {
+        start: u32::from_le_bytes([s0, s1, s2, s3]),
+        count: u32::from_le_bytes([c0, c1, c2, c3]),
+    }
+}
+
+fn entries(table: &[u8]) -> impl Iterator<Item = Entry> + '_ {
+    table.as_chunks().0.iter().map(parse_entry)
+}
+
+/// How many bytes the contents have after the head, which may be cut short and may
+/// have more behind it. 02: "24 mark wrong or cut short, 25 contents wrong".
+fn table_bytes(head: &[u8]) -> Result<usize, u8> {
+    let behind_mark = head.strip_prefix(MARK).ok_or(WRONG_MARK)?;
+    let [low, high, ..] = *behind_mark else {
+        return Err(WRONG_CONTENTS);
+    };
+    match usize::from(u16::from_le_bytes([low, high])) {
+        sections @ 1..=MOST_SECTIONS => Ok(sections * ENTRY_BYTES),
+        _ => Err(WRONG_CONTENTS),
+    }
+}
+
+/// The bytes of a file with these contents. 02: "sections, numbered from 0, follow in
+/// order with no gaps"; 25 too if "the table asks for more than 16 MiB". A start has 32
+/// bits and 64 counts may ask for more, so that the sum has 64.
+fn file_bytes(table: &[u8]) -> Result<u64, u8> {
+    let mut end = (HEAD_BYTES + table.len()) as u64;
+    for entry in entries(table) {
+        if u64::from(entry.start) != end {
+            return Err(WRONG_CONTENTS);
+        }
+        end += u64::from(entry.count) * RECORD_BYTES as u64;
+    }
+    if end > MOST_FILE_BYTES {
+        return Err(WRONG_CONTENTS);
+    }
+    Ok(end)
+}
+
+/// The contents of a whole file, if it is a trace. The records are not looked at.
+fn contents(trace: &[u8]) -> Result<&[u8], u8> {
+    let length = table_bytes(trace)?;
+    let table = trace[HEAD_BYTES..].get(..length).ok_or(WRONG_CONTENTS)?;
+    // 02: "too short or too long for them".
+    if trace.len() as u64 != file_bytes(table)? {
+        return Err(WRONG_CONTENTS);
+    }
+    Ok(table)
+}
+
+/// 24 or 25 for a whole file, 0 if it is a trace. As with the other calls for a whole
+/// file, only tests have one, those of `bench/` too: the program meets its length last.
+pub fn check(trace: &[u8]) -> u8 {
+    contents(trace).err().unwrap_or(0)
+}
+
+fn find_section(trace: &[u8], section: usize) -> Result<&[u8], u8> {
+    let mut entries = entries(contents(trace)?);
+    let entry = entries.nth(section).ok_or(NO_SUCH_SECTION)?;
+    // The contents are right, so that the section lies in the file.
+    let behind_start = &trace[entry.start as usize..];
+    Ok(&behind_start[..entry.count as usize * RECORD_BYTES])
+}
+
+/// A section's records and a number. 02: "Asking for a section hands back that stretch
+/// of the caller's own bytes, uncopied, empty if refused."
+pub fn section(trace: &[u8], section: usize) -> (&[u8], u8) {
+    match find_section(trace, section) {
+        Ok(records) => (records, 0),
+        Err(number) => (&trace[..0], number),
+    }
+}
+
+// Records.
+
+/// 02: "a byte, address or code above 255" is wrong.
+fn parse_byte(value: u32) -> Option<u8> {
+    u8::try_from(value).ok()
+}
+
+/// 02: "the session letter, a zero byte, a 16-bit offset, two 32-bit values; arguments
+/// fill the values in order, unused fields are zero". None if the record is wrong.
+fn parse_record(record: &[u8; RECORD_BYTES]) -> Option<Call> {
+    let &[[letter, 0, low, high], first, second] = record.as_chunks().0 else {
+        return None;
+    };
+    let offset = u16::from_le_bytes([low, high]);
+    let first = u32::from_le_bytes(first);
+    let second = u32::from_le_bytes(second);
+    let call = match (Letter::of_byte(letter)?, offset, first, second) {
+        (Letter::W, offset, value, 0) => Call::Write { offset, value },
+        (Letter::R, offset, 0, 0) => Call::Read { offset },
+        (Letter::S, 0, 0, 0) => Call::Start,
+        (Letter::T, 0, 0, 0) => Call::Send,
+        (Letter::X, 0, byte, 0) => Call::Receive {
+            byte: parse_byte(byte)?,
+        },
+        (Letter::F, 0, code, 0) => Call::Finish {
+            code: parse_byte(code)?,
+        },
+        (Letter::I, 0, address, byte) => Call::InterruptRequest {
+            address: parse_byte(address)?,
+            byte: parse_byte(byte)?,
+        },
+        (Letter::D, 0, first, second) => Call::AddressRequest { first, second },
+        (Letter::A, 0, 0, 0) => Call::AddressTake,
+        _ => return None,
+    };
+    Some(call)
+}
+
+/// The answer to one record; none if it is wrong, and then nothing is done. For 13, 02,
+/// section 3: "replay lends an empty one".
+fn replay_record(record: &[u8; RECORD_BYTES], bank: &mut Bank) -> Option<Answer> {
+    parse_record(record).map(|call| bank.call(&call, &mut []))
+}
+
+// Replay of one section.
+
+/// What a replay gives. 02: "its number, how many it did and the last one's answer (0,
+/// 0 if it did none)".
+#[derive(Clone, Copy, Debug, PartialEq, Eq)]
+pub struct Replay {
+    pub number: u8,
+    pub done: usize,
+    pub last: Answer,
+}
+
+/// Replays at most `most` records of a section. A record that the bank refuses is done
+/// too: 02 has "the rule that a refusal changes nothing ... for each record by itself",
+/// and names only 27 as a number "where replay stops with the earlier records done".
+pub fn replay(trace: &[u8], section: usize, most: usize, bank: &mut Bank) -> Replay {
+    let mut replay = Replay {
+        number: 0,
+        done: 0,
+        last: Answer {
+            value: 0,
+            number: 0,
+        },
+    };
+    let records = match find_section(trace, section) {
+        Ok(records) => records.as_chunks().0,
+        Err(number) => return Replay { number, ..replay },
+    };
+    for record in records.iter().take(most) {
+        let Some(answer) = replay_record(record, bank) else {
+            replay.number = WRONG_RECORD;
+            break;
+        };
+        replay.last = answer;
+        replay.done += 1;
+    }
+    replay
+}
+
+// The program.
+
+/// Fills the buffer as far as the input goes and gives how far that is. A read that
+/// fails ends the input.
+fn fill(input: &mut impl Read, buffer: &mut [u8]) -> usize {
+    let mut filled = 0;
+    while filled < buffer.len() {
+        match input.read(&mut buffer[filled..]) {
+            Ok(0) => break,
+            Ok(count) => filled += count,
+            Err(error) if error.kind() == ErrorKind::Interrupted => {}
+            Err(_) => break,
+        }
+    }
+    filled
+}
+
+/// Reads all that comes before the first record and gives how many records follow.
+fn read_contents(input: &mut impl Read) -> Result<usize, u8> {
+    let mut head = [0; HEAD_BYTES];
+    let filled = fill(input, &mut head);
+    let length = table_bytes(&head[..filled])?;
+    let mut table = [0; MOST_SECTIONS * ENTRY_BYTES];
+    let table = &mut table[..length];
+    if fill(input, table) < length {
+        return Err(WRONG_CONTENTS);
+    }
+    // The sections have no gaps, so that their records are one row.
+    let records = file_bytes(table)? as usize - HEAD_BYTES - length;
+    Ok(records / RECORD_BYTES)
+}
+
+/// Replays records up to the first wrong one, each to its line; gives how many it did.
+fn replay_batch(
+    records: &[[u8; RECORD_BYTES]],
+    lines: &mut [[u8; LINE_BYTES]],
+    bank: &mut Bank,
+) -> usize {
+    let mut done = 0;
+    for (record, line) in records.iter().zip(lines) {
+        let Some(answer) = replay_record(record, bank) else {
+            break;
+        };
+        put_answer(answer, line);
+        done += 1;
+    }
+    done
+}
+
+/// Replays so many records as they come, then looks whether the input ends; gives the
+/// number of the whole. 02: "It answers a wrong length when it meets it, after the
+/// records before".
+fn replay_records(
+    mut count: usize,
+    input: &mut impl Read,
+    output: &mut impl Write,
+) -> io::Result<u8> {
+    let mut bank = session_bank();
+    let mut records = vec![[0; RECORD_BYTES]; BATCH_RECORDS];
+    let mut lines = vec![[0; LINE_BYTES]; BATCH_RECORDS];
+    while count > 0 {
+        let wanted = count.min(BATCH_RECORDS);
+        // Of a record cut short nothing is looked at.
+        let whole = fill(input, records[..wanted].as_flattened_mut()) / RECORD_BYTES;
+        let done = replay_batch(&records[..whole], &mut lines, &mut bank);
+        output.write_all(lines[..done].as_flattened())?;
+        if done < whole {
+            return Ok(WRONG_RECORD);
+        }
+        if whole < wanted {
+            return Ok(WRONG_CONTENTS);
+        }
+        count -= wanted;
+    }
+    match fill(input, &mut [0]) {
+        0 => Ok(0),
+        _ => Ok(WRONG_CONTENTS),
+    }
+}
+
+/// 02: "A program replays all sections of standard input in order on the session's
+/// bank ...; it prints a session line per record and, for 24, 25 or 27, one with value
+/// 0, and ends." Only the output can fail; it gets whole batches and needs no buffer.
+pub fn run_replay(mut input: impl Read, output: &mut impl Write) -> io::Result<()> {
+    let number = match read_contents(&mut input) {
+        Ok(count) => replay_records(count, &mut input, output)?,
+        Err(number) => number,
+    };
+    if number != 0 {
+        print_answer(Answer { value: 0, number }, output)?;
+    }
+    output.flush()
+}
+
+#[cfg(test)]
+mod tests;

@@ -1,15 +1,14 @@
 -- An input may be cut anywhere.
-use Prim.Native.Nat.{ℕ, _+_, _-_, _*_, _/_, _≤_, min}
+use Prim.Native.Nat.{ℕ, _+_, _-_, _*_, _≤_}
 use native.Mathlib.Omega.{arith}
 use native.Mathlib.Nat.{zero-add, add-assoc}
-use native.Mathlib.Decide.{decLt}
 use mathlib.Core.Path.{_≡_, refl, sym, ap, ap₂, _∙_}
 use mathlib.Core.Bool.{Bool, true, false, cond, _&&_}
 use mathlib.Core.List.{List, [], _++_, append-nil, append-assoc}
 use lib.Dec.{eqb, ltb}
 use lib.ListN.{length, drop, length-append, length-drop}
 use lib.Seq.{drop-length, drop-drop, drop-append-le}
-use borrow.Author.Tests.{lt-ltb, le-ltb, ltb-true, eqb-true, eq-eqb}
+use borrow.Author.Tests.{lt-ltb, ltb-true, eqb-true, eq-eqb}
 use Rattle.model.specs.Rings.{Controller}
 use Rattle.print.specs.Line.{lineOf}
 use Rattle.lines.proofs.Choices.{chosen, passed}
@@ -21,19 +20,11 @@ use Rattle.record.specs.Record.{within}
 use Rattle.stream.specs.declared.Stage.the-variants.{Opening, Records, Over}
 use Rattle.stream.specs.Stream.{Printed, lines, Stream, stream, over, recordsOf, openedBy, fed}
 use Rattle.stream.specs.Laws.{after, CutAnywhere}
+use Rattle.stream.proofs.Counts.{within-is, within-most, within-long}
 use Rattle.stream.proofs.Prefix.{Kept, head-kept}
 use Rattle.stream.proofs.Runs.{behind, same-lines, stopped, followed}
 
--- ── How many records ──────────────────────────────────────────────────────────────────────────────────────────
-pub within-is : (t : ℕ) (bytes : List ℕ) → within t bytes ≡ min t (length bytes / 12)
-within-is t bytes = let k = length bytes / 12 in elim (decLt t k) [ yes h ↦ rw (lt-ltb t k h) (omega arith) | no h ↦ rw (le-ltb t k (omega arith)) (omega arith) ]
-
-within-most : (t : ℕ) (a : List ℕ) → within t a ≤ t
-within-most t a = omega (arith, within-is t a)
-
-pub within-long : (t : ℕ) (a : List ℕ) → 12 * within t a ≤ length a
-within-long t a = omega (arith, within-is t a)
-
+-- ── How many records, cut in two ──────────────────────────────────────────────────────────────────────────────
 -- what n records of the first piece leave, with the second behind it
 abbrev rest : ℕ → List ℕ → List ℕ → List ℕ
 rest n a b = drop (12 * n) a ++ b

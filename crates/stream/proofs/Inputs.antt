@@ -21,7 +21,8 @@ use Rattle.stream.specs.declared.Stage.{Stage}
 use Rattle.stream.specs.declared.Stage.the-variants.{Opening, Records, Over}
 use Rattle.stream.specs.Stream.{Printed, lines, Stream, stream, recordsOf, openedBy, fed, endNumber, endText, transcript}
 use Rattle.stream.specs.Laws.{after, CutAnywhere, fedPieces, AnyPieces, SoundIsPrinted, MarkIsTold}
-use Rattle.stream.proofs.Cutting.{within-is, within-long, past, picked, as-told, cut-anywhere}
+use Rattle.stream.proofs.Counts.{within-is, within-long}
+use Rattle.stream.proofs.Cutting.{past, picked, as-told, cut-anywhere}
 
 -- what a piece printed, and the end behind it
 abbrev ended : List ℕ → Stream → List ℕ

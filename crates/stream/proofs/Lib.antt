@@ -1,4 +1,5 @@
 pub mod Text
+pub mod Counts
 pub mod Prefix
 pub mod Runs
 pub mod Cutting

@@ -1,13 +1,11 @@
 -- Records and their lines, one after another, and what a piece of them leaves.
-use Prim.Native.Nat.{ℕ, _+_, _-_, _*_, _/_, _<_, _≤_}
+use Prim.Native.Nat.{ℕ, _+_, _-_, _*_, _<_}
 use native.Mathlib.Omega.{arith}
-use native.Mathlib.Decide.{decLt}
-use mathlib.Core.Path.{_≡_, ap, sym, _∙_}
-use mathlib.Core.Bool.{Bool, true, false, cond, _&&_, false≢true}
+use mathlib.Core.Path.{_≡_, ap, _∙_}
+use mathlib.Core.Bool.{Bool, true, false, cond, _&&_}
 use mathlib.Core.List.{List, _++_}
 use lib.Dec.{eqb, ltb}
 use lib.ListN.{length, take}
-use borrow.Author.Tests.{lt-ltb, le-ltb, ltb-false, eq-eqb}
 use Rattle.model.specs.declared.Call.{Call}
 use Rattle.model.specs.Engine.{Step, step}
 use Rattle.model.specs.Rings.{Controller, rings}
@@ -47,23 +45,3 @@ module _ (l : Controller) (m : ℕ) (bytes : List ℕ) (n : ℕ) (p : Printed) (
 
   pub goes-on : p .wrong ≡ false → past ≡ false → stream (p .left) (Records (m - n)) (12 * n) (p .text) ≡ recordsOf l m bytes
   goes-on h k = let y : stream (p .left) (Records (m - n)) (12 * n) (p .text) ≡ choice n p = rw (h, k) in y ∙ chosen
-
--- less than a record is left where no byte is past the last
-and-false : (a b : Bool) → (a && b) ≡ false → a ≡ true → b ≡ false
-and-false true b e h = e
-and-false false b e h = absurd (false≢true h)
-
-pub rest-short : (m : ℕ) (bytes : List ℕ) (n : ℕ) → n ≡ within m bytes → (eqb n m && ltb (12 * n) (length bytes)) ≡ false → length bytes < 12 * n + 12
-rest-short m bytes n is e = elim (decLt m (length bytes / 12)) [
-  | yes h ↦ (let z : n ≡ m = is ∙ ap (λ (b : Bool). cond b m (length bytes / 12)) (lt-ltb m (length bytes / 12) h) in
-      let k = ltb-false (12 * n) (length bytes) (and-false (eqb n m) (ltb (12 * n) (length bytes)) e (eq-eqb n m z)) in
-      omega (arith, k))
-  | no h ↦ (let z : n ≡ length bytes / 12 = is ∙ ap (λ (b : Bool). cond b m (length bytes / 12)) (le-ltb m (length bytes / 12) (omega (arith, h))) in omega (arith, z))
-]
-
--- no more are taken than are to come
-pub within-limit : (m : ℕ) (bytes : List ℕ) (n : ℕ) → n ≡ within m bytes → n ≤ m
-within-limit m bytes n is = elim (decLt m (length bytes / 12)) [
-  | yes h ↦ (let z : n ≡ m = is ∙ ap (λ (b : Bool). cond b m (length bytes / 12)) (lt-ltb m (length bytes / 12) h) in omega (arith, z))
-  | no h ↦ (let z : n ≡ length bytes / 12 = is ∙ ap (λ (b : Bool). cond b m (length bytes / 12)) (le-ltb m (length bytes / 12) (omega (arith, h))) in omega (arith, z, h))
-]

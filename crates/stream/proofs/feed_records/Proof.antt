@@ -6,7 +6,8 @@ use mathlib.Core.Path.{_≡_, ap, _∙_}
 use mathlib.Core.List.{[]}
 use lib.ListN.{length}
 use Rattle.answer.specs.Given.{controller}
-use Rattle.stream.proofs.Text.{wrong-met, too-long, goes-on, rest-short, within-limit}
+use Rattle.stream.proofs.Text.{wrong-met, too-long, goes-on}
+use Rattle.stream.proofs.Counts.{within-most, rest-short}
 use Rattle.stream.proofs.feed_records.Statement.{statement}
 use Rattle.stream.proofs.feed_records.Tie as tie
 
@@ -75,7 +76,7 @@ sub-t18 : tie.Need-sub-t18
 sub-t18 c =
     let a = c .before .before .before .before .before .before .before .before .before .before .before .before .before .before .args in
     let n = c .before .before .before .before .before .before .before .before .before .before .whole in
-    within-limit (a .due) (a .bytes .now) (n .result) (n .ensures .0)
+    omega (arith, n .ensures .0, within-most (a .due) (a .bytes .now))
 
 mul-t24 : tie.Need-mul-t24
 mul-t24 c =

@@ -1,11 +1,19 @@
 -- What a replay promises beside its definition: it makes the calls, one by one.
 use Prim.Native.Nat.{ℕ, _<_, _≤_}
 use mathlib.Core.Path.{_≡_}
-use mathlib.Core.Bool.{true}
-use mathlib.Core.List.{List, map, foldl}
+use mathlib.Core.Bool.{Bool, true, false}
+use mathlib.Core.List.{List, [], map, foldl}
+use lib.Dec.{leb}
 use lib.ListN.{length, take}
+use Rattle.bank.specs.declared.Bank.{Bank}
+use Rattle.bank.specs.SetUp.{total}
+use Rattle.bank.specs.Formed.{wellFormed}
+use Rattle.bank.specs.Bursts.{bursting, readsIn, span}
 use Rattle.model.specs.declared.Call.{Call}
-use Rattle.model.specs.Rings.{Controller}
+use Rattle.model.specs.declared.Call.the-variants.{Read, Write, Start, Send, Receive, Finish, Interrupt, Request, Take, Trigger}
+use Rattle.model.specs.Engine.{step}
+use Rattle.model.specs.Rings.{Controller, rings}
+use Rattle.answer.specs.Given.{controller}
 use Rattle.lines.specs.declared.Parsed.the-variants.{Named, Skipped}
 use Rattle.record.specs.Record.{recordAt, within}
 use Rattle.record.specs.Writer.{traceOf, namedFrom, sectionOf, everyWritable}
@@ -29,3 +37,21 @@ StopsAtWrong = (ks : List Call) (bytes : List ℕ) (limit : ℕ) (l : Controller
 unfoldable pub WrittenIsMade : Type 0
 WrittenIsMade = (ss : List (List Call)) (i limit : ℕ) (l : Controller) → 1 ≤ length ss → length ss ≤ 64 → length (traceOf ss) ≤ 0x1000000 → everyWritable ss ≡ true → i < length ss
     → replayOf (traceOf ss) i limit l ≡ made (take limit (sectionOf ss i)) l
+
+-- an event that is no 18
+abbrev pub inRange : Call → Bool
+inRange (Read o) = false
+inRange (Write o v) = false
+inRange Start = true
+inRange Send = true
+inRange (Receive b) = true
+inRange (Finish code) = leb code 15
+inRange (Interrupt a b) = leb a 127
+inRange (Request v w) = true
+inRange Take = true
+inRange Trigger = true
+
+-- 02 §3: "replay lends an empty one". So on a bank with an open burst that has reads, the events of a trace are answered 13, and change nothing
+unfoldable pub BurstUnserved : Type 0
+BurstUnserved = (b : Bank) (store : List ℕ) (k : Call) → wellFormed b ≡ true → length store ≡ total (b .state .queues) → bursting (b .state .control) ≡ true → 0 < readsIn (span (b .state .regs)) (b .commands) → inRange k ≡ true
+    → (let l = controller b store [] in step rings l k ≡ record { answer = record { value = 0; number = 13 }; next = l })

@@ -48,9 +48,12 @@ replayOf file i limit l = cond (eqb (lookNumber file i) 0) (played limit (sectio
 abbrev pub reached : Reached → Tables → List ℕ → Replay
 reached r t s = record { told = r .told; left = controller (bankWith (r .state) t) s (t .output) }
 
+abbrev pub replayedWith : Replayed → List ℕ → List ℕ → Replay
+replayedWith r s o = record { told = r .told; left = controller (r .bank) s o }
+
 -- the same with no output: an empty one stays empty
 abbrev pub replayedOut : Replayed → List ℕ → Replay
-replayedOut r s = record { told = r .told; left = controller (r .bank) s [] }
+replayedOut r s = replayedWith r s []
 
 abbrev pub replayedPlace : Bank → Told → List ℕ → Replay
 replayedPlace b t s = record { told = t; left = controller b s [] }

@@ -1,6 +1,6 @@
 // Replay of a section of a trace, 02 §1: by value, and on a bank that is changed where it lies. The two tests of bank and
-// store are made once, before the records: no call changes what they say. Every call is lent an empty output: no record
-// names the trigger.
+// store are made once, before the records: no call changes what they say. A replay lends every call an empty output: no
+// record names the trigger.
 ghost use mathlib.Core.Path.{_≡_};
 ghost use mathlib.Core.List.{List, []};
 ghost use Prim.Native.Nat.{ℕ, _*_, _≤_};
@@ -8,7 +8,7 @@ ghost use lib.ListN.{length};
 ghost use Rattle.answer.specs.Given.{bankWith, controller, tables};
 ghost use Rattle.controller.specs.Faults.{faultNumber};
 ghost use Rattle.record.specs.Record.{each};
-ghost use Rattle.playback.specs.Replay.{begun, did, wrong, played, replayOf, reached, replayedOut, replayedPlace};
+ghost use Rattle.playback.specs.Replay.{begun, did, wrong, played, replayOf, reached, replayedWith, replayedOut, replayedPlace};
 use bank::Answer;
 use bank::Bank;
 use bank::State;
@@ -93,7 +93,7 @@ fn replay_parts(
 
 // A bank of a state and its tables, with what was told.
 fn out_of(y: Reached, flags: [u8; 128], commands: [u32; 16], payloads: [u32; 16]) -> Replayed
-    ensures { λ r. ⌜ ((s : List ℕ) → replayedOut r s ≡ reached y (tables flags commands payloads []) s) ⌝ }
+    ensures { λ r. ⌜ ((s o : List ℕ) → replayedWith r s o ≡ reached y (tables flags commands payloads o) s) ⌝ }
 {
     let s = y.state;
     let bank = Bank {
@@ -109,23 +109,28 @@ fn out_of(y: Reached, flags: [u8; 128], commands: [u32; 16], payloads: [u32; 16]
     }
 }
 
-// The records of a section, at most `limit` of them; a wrong one ends it.
-fn play(b: Bank, store: &mut [u32], records: &[u8], limit: usize) -> Replayed
-    ensures { λ r. ⌜ replayedOut r (now (store .exit)) ≡ played limit (now (records .entry)) (controller b (now (store .entry)) []) ⌝ }
+// The records in some bytes, at most `limit` of them; a wrong one ends it. The output is lent to each call.
+pub fn play(
+    b: Bank,
+    store: &mut [u32],
+    output: &mut [u32],
+    records: &[u8],
+    limit: usize,
+) -> Replayed
+    ensures { λ r. ⌜ replayedWith r (now (store .exit)) (now (output .exit)) ≡ played limit (now (records .entry)) (controller b (now (store .entry)) (now (output .entry))) ⌝ }
 {
     let n = record::whole(limit, records);
     let fault = controller::fault(b, store.len());
     let mut f = b.flags;
     let mut c = b.commands;
     let mut p = b.payloads;
-    let mut none = [0u32; 0];
     let y = replay_parts(
         b.state,
         &mut f,
         &mut c,
         &mut p,
         store,
-        &mut none,
+        output,
         fault,
         records,
         n,
@@ -161,7 +166,8 @@ pub fn replay(b: Bank, store: &mut [u32], file: &[u8], i: u32, limit: usize) -> 
         return refused(b, number);
     }
     let records = trace::section(file, i);
-    play(b, store, records, limit)
+    let mut none = [0u32; 0];
+    play(b, store, &mut none, records, limit)
 }
 
 // The same on a bank that is changed where it lies.

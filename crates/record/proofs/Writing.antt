@@ -49,10 +49,10 @@ module _ (x y : List ℕ) where
 
 -- ── A record ──────────────────────────────────────────────────────────────────────────────────────────────────
 -- a record's fields, where its bytes can hold them
-abbrev Holds : Record → Type 0
+abbrev pub Holds : Record → Type 0
 Holds r = (r .offset < 0x10000) × (r .first < 0x100000000) × (r .second < 0x100000000)
 
-fields-read : (r : Record) (rest : List ℕ) → Holds r → fieldsAt (recordBytes r ++ rest) 0 ≡ r
+pub fields-read : (r : Record) (rest : List ℕ) → Holds r → fieldsAt (recordBytes r ++ rest) 0 ≡ r
 fields-read r rest h = λ j. record {
   letter = r .letter;
   zero-byte = r .zero-byte;
@@ -76,21 +76,21 @@ holds (Request v w) e = omega (arith, both v 0x100000000 w 0x100000000 e)
 holds Take e = omega arith
 holds Trigger e = absurd (false≢true e)
 
-named : (k : Call) → writable k ≡ true → namedIn (formOf (recordOf k .letter)) (recordOf k) ≡ Named k
+pub call-named : (k : Call) → writable k ≡ true → namedIn (formOf (recordOf k .letter)) (recordOf k) ≡ Named k
 unfolding forms find
-named (Read o) e = rw (e, mod-eq-of-lt (ltb-true _ _ e))
-named (Write o v) e = let h = both o 0x10000 v 0x100000000 e in rw (lt-ltb _ _ (h .0), lt-ltb _ _ (h .1), mod-eq-of-lt (h .0))
-named Start e = refl
-named Send e = refl
-named (Receive b) e = rw (e, mod-eq-of-lt (ltb-true _ _ e))
-named (Finish c) e = rw (e, mod-eq-of-lt (ltb-true _ _ e))
-named (Interrupt a b) e = let h = both a 0x100 b 0x100 e in rw (lt-ltb _ _ (h .0), lt-ltb _ _ (h .1), mod-eq-of-lt (h .0), mod-eq-of-lt (h .1))
-named (Request v w) e = let h = both v 0x100000000 w 0x100000000 e in rw (lt-ltb _ _ (h .0), lt-ltb _ _ (h .1))
-named Take e = refl
-named Trigger e = absurd (false≢true e)
+call-named (Read o) e = rw (e, mod-eq-of-lt (ltb-true _ _ e))
+call-named (Write o v) e = let h = both o 0x10000 v 0x100000000 e in rw (lt-ltb _ _ (h .0), lt-ltb _ _ (h .1), mod-eq-of-lt (h .0))
+call-named Start e = refl
+call-named Send e = refl
+call-named (Receive b) e = rw (e, mod-eq-of-lt (ltb-true _ _ e))
+call-named (Finish c) e = rw (e, mod-eq-of-lt (ltb-true _ _ e))
+call-named (Interrupt a b) e = let h = both a 0x100 b 0x100 e in rw (lt-ltb _ _ (h .0), lt-ltb _ _ (h .1), mod-eq-of-lt (h .0), mod-eq-of-lt (h .1))
+call-named (Request v w) e = let h = both v 0x100000000 w 0x100000000 e in rw (lt-ltb _ _ (h .0), lt-ltb _ _ (h .1))
+call-named Take e = refl
+call-named Trigger e = absurd (false≢true e)
 
 pub record-read : (k : Call) (rest : List ℕ) → writable k ≡ true → recordAt (recordBytes (recordOf k) ++ rest) 0 ≡ Named k
-record-read k rest e = ap (λ (r : Record). namedIn (formOf (r .letter)) r) (fields-read (recordOf k) rest (holds k e)) ∙ named k e
+record-read k rest e = ap (λ (r : Record). namedIn (formOf (r .letter)) r) (fields-read (recordOf k) rest (holds k e)) ∙ call-named k e
 
 -- ── A section ─────────────────────────────────────────────────────────────────────────────────────────────────
 named-past : (x y : List ℕ) (n i : ℕ) → length x ≡ 12 → namedFrom n (x ++ y) (suc i) ≡ namedFrom n y i

@@ -6,6 +6,7 @@ ghost use lib.ListN.{length};
 ghost use Rattle.lines.specs.declared.Parsed.the-variants.{Skipped};
 ghost use Rattle.lines.specs.Forms.{formOf};
 ghost use Rattle.record.specs.Record.{rec, namedIn, recordAt, within};
+ghost use Rattle.record.specs.Writer.{recordBytes};
 use lines::Parsed;
 
 // What a record names if it is right.
@@ -68,6 +69,26 @@ pub fn at(records: &[u8], i: usize) -> Parsed
     let v = trace::four_at(records, start + 4);
     let w = trace::four_at(records, start + 8);
     named(letter, zero, offset, v, w)
+}
+
+// A record as it is written, by its fields.
+pub fn bytes_of(letter: u8, offset: u32, v: u32, w: u32) -> [u8; 12]
+    ensures { λ r. ⌜ r ≡ recordBytes (rec letter 0 offset v w) ⌝ }
+{
+    [
+        letter,
+        0,
+        (offset % 256) as u8,
+        (offset / 256 % 256) as u8,
+        (v % 256) as u8,
+        (v / 256 % 256) as u8,
+        (v / 256 / 256 % 256) as u8,
+        (v / 256 / 256 / 256 % 256) as u8,
+        (w % 256) as u8,
+        (w / 256 % 256) as u8,
+        (w / 256 / 256 % 256) as u8,
+        (w / 256 / 256 / 256 % 256) as u8,
+    ]
 }
 
 // How many whole records so many bytes have, up to a limit.

@@ -147,6 +147,16 @@ pub fn section(file: &[u8], i: u32) -> &[u8]
     &file[start as usize..end as usize]
 }
 
+// The first byte of section i; 0 where the number is not 0.
+pub fn section_start(file: &[u8], i: u32) -> u32
+    ensures { λ r. ⌜ r ≡ sectionStart (now (file .entry)) i ⌝ }
+{
+    if look_up(file, i) != 0 {
+        return 0;
+    }
+    start_at(file, i)
+}
+
 // What the first bytes of a file tell.
 pub enum Head {
     // More must come.

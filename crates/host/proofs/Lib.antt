@@ -1,0 +1,5 @@
+pub mod Calling
+pub mod Hosting
+pub mod Laws
+pub mod Types
+pub mod Along

@@ -1,0 +1,4 @@
+pub mod Host
+pub mod Laws
+pub mod Types
+pub mod Along

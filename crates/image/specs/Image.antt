@@ -1,0 +1,120 @@
+-- A bank as an image, a list of words: the words that a bank has, the bank that some words say, and which words are an image.
+use Prim.Native.Nat.{ℕ, _+_, _%_}
+use mathlib.Core.Bool.{Bool, true, false, cond, _&&_}
+use mathlib.Core.List.{List, [], _∷_, _++_, map}
+use lib.Dec.{eqb}
+use lib.ListN.{length, getD, take, drop}
+use Rattle.ring.specs.declared.Ring.{Ring}
+use Rattle.ring.specs.Units.{bytes, words}
+use Rattle.bank.specs.declared.Queues.{Queues}
+use Rattle.bank.specs.declared.Regs.{Regs}
+use Rattle.bank.specs.declared.Control.{Control}
+use Rattle.bank.specs.declared.Kind.{Kind}
+use Rattle.bank.specs.declared.Kind.the-variants.{Private, Direct, Broadcast}
+use Rattle.bank.specs.declared.Transfer.{Transfer}
+use Rattle.bank.specs.declared.Phase.{Phase}
+use Rattle.bank.specs.declared.Phase.the-variants.{Idle, Writing, Reading, Unrequested, Requested, Answered}
+use Rattle.bank.specs.declared.State.{State}
+use Rattle.bank.specs.declared.Bank.{Bank}
+use Rattle.bank.specs.Bits.{weigh}
+use Rattle.bank.specs.Phases.{stage, transfer}
+use Rattle.bank.specs.Formed.{wellFormed}
+
+-- ── The words of a bank ───────────────────────────────────────────────────────────────────────────────────────
+abbrev pub size : ℕ
+size = 200
+
+abbrev pub ringWords : Ring → List ℕ
+ringWords r = r .cap .0 ∷ r .mark .0 ∷ r .head ∷ r .level .0 ∷ []
+
+abbrev pub regWords : Regs → List ℕ
+regWords g = g .id ∷ g .scratch ∷ g .mask ∷ g .ops ∷ g .config ∷ g .selected ∷ []
+
+-- a flag is 1 or 0
+abbrev pub controlWords : Control → List ℕ
+controlWords c =
+    weigh (c .held) 1 ∷ c .sync ∷ c .ibisync ∷ weigh (c .cmdrpending) 1 ∷ weigh (c .ibipending) 1 ∷ weigh (c .daapending) 1 ∷ c .burst ∷ []
+
+abbrev pub kindNumber : Kind → ℕ
+kindNumber Private = 0
+kindNumber Direct = 1
+kindNumber Broadcast = 2
+
+-- the number of the phase, then its transfer; where none is open, zeros
+abbrev pub phaseWords : Phase → List ℕ
+phaseWords p =
+    let t = transfer p in
+    stage p ∷ kindNumber (t .kind) ∷ weigh (t .header) 1 ∷ t .length .0 ∷ t .moved .0 ∷ weigh (t .attached) 1 ∷ t .part ∷ []
+
+abbrev pub stateWords : State → List ℕ
+stateWords s =
+    let q = s .queues in
+    ringWords (q .cmd) ++ (ringWords (q .cmdr) ++ (ringWords (q .sdo) ++ (ringWords (q .sdi) ++ (ringWords (q .ibi)
+    ++ (regWords (s .regs) ++ (controlWords (s .control) ++ phaseWords (s .phase)))))))
+
+unfoldable pub imageOf : Bank → List ℕ
+imageOf b = stateWords (b .state) ++ (b .flags ++ (b .commands ++ b .payloads))
+
+-- ── The bank that some words say ──────────────────────────────────────────────────────────────────────────────
+abbrev pub ringIn : List ℕ → ℕ → Ring
+ringIn ws at = record { cap = words (getD ws at 0); mark = words (getD ws (at + 1) 0); head = getD ws (at + 2) 0; level = words (getD ws (at + 3) 0) }
+
+-- a field of a byte, and one of a bit
+abbrev pub byteIn : List ℕ → ℕ → ℕ
+byteIn ws at = getD ws at 0 % 256
+
+abbrev pub bitIn : List ℕ → ℕ → Bool
+bitIn ws at = eqb (getD ws at 0) 1
+
+abbrev pub kindIn : ℕ → Kind
+kindIn n = cond (eqb n 0) Private (cond (eqb n 1) Direct Broadcast)
+
+abbrev pub transferIn : List ℕ → Transfer
+transferIn ws =
+    record { kind = kindIn (getD ws 34 0); header = bitIn ws 35; length = bytes (getD ws 36 0); moved = bytes (getD ws 37 0); attached = bitIn ws 38; part = getD ws 39 0 }
+
+abbrev pub phaseIn : ℕ → Transfer → Phase
+phaseIn n t =
+    cond (eqb n 0) Idle
+    (cond (eqb n 1) (Writing t)
+    (cond (eqb n 2) (Reading t)
+    (cond (eqb n 3) (Unrequested t)
+    (cond (eqb n 4) (Requested t)
+    (Answered t)))))
+
+abbrev pub queuesIn : List ℕ → Queues
+queuesIn ws = record { cmd = ringIn ws 0; cmdr = ringIn ws 4; sdo = ringIn ws 8; sdi = ringIn ws 12; ibi = ringIn ws 16 }
+
+abbrev pub regsIn : List ℕ → Regs
+regsIn ws = record { id = byteIn ws 20; scratch = getD ws 21 0; mask = byteIn ws 22; ops = byteIn ws 23; config = byteIn ws 24; selected = byteIn ws 25 }
+
+abbrev pub controlIn : List ℕ → Control
+controlIn ws =
+    record { held = bitIn ws 26; sync = byteIn ws 27; ibisync = byteIn ws 28; cmdrpending = bitIn ws 29; ibipending = bitIn ws 30; daapending = bitIn ws 31; burst = byteIn ws 32 }
+
+abbrev pub stateIn : List ℕ → State
+stateIn ws = record { queues = queuesIn ws; regs = regsIn ws; control = controlIn ws; phase = phaseIn (getD ws 33 0) (transferIn ws) }
+
+abbrev pub part : ℕ → ℕ → List ℕ → List ℕ
+part at n ws = take n (drop at ws)
+
+abbrev pub lowBytes : List ℕ → List ℕ
+lowBytes = map (λ w. w % 256)
+
+unfoldable pub bankIn : List ℕ → Bank
+bankIn ws = record { state = stateIn ws; flags = lowBytes (part 40 128 ws); commands = part 168 16 ws; payloads = part 184 16 ws }
+
+-- ── Which words are an image ──────────────────────────────────────────────────────────────────────────────────
+abbrev pub same : List ℕ → List ℕ → Bool
+same [] [] = true
+same [] (y ∷ ys) = false
+same (x ∷ xs) [] = false
+same (x ∷ xs) (y ∷ ys) = eqb x y && same xs ys
+
+-- words that a bank has: those of the bank that they say
+abbrev pub encoded : List ℕ → Bool
+encoded ws = same (imageOf (bankIn ws)) ws
+
+-- "one that encodes no well-formed bank, or has the wrong length, is answered 21"
+abbrev pub isImage : List ℕ → Bool
+isImage ws = eqb (length ws) size && (encoded ws && wellFormed (bankIn ws))

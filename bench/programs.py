@@ -20,10 +20,13 @@ import tempfile
 import time
 
 TESTS = pathlib.Path(__file__).resolve().parent.parent / "tests"
+sys.path.insert(0, str(TESTS))
 
-# A trace of one section: its first record's place, a record's bytes, a file's most.
-START, RECORD, MOST = 14, 12, 16 << 20
-MOST_RECORDS = (MOST - START) // RECORD
+from pack import MOST_BYTES, RECORD, header_bytes, pack
+
+# Of a trace of one section.
+START = header_bytes(1)
+MOST_RECORDS = (MOST_BYTES - START) // RECORD.size
 
 
 def run(command, source, target):
@@ -34,15 +37,10 @@ def run(command, source, target):
         return time.perf_counter() - start
 
 
-def tool(name, *arguments):
-    """The command of a script among the tests."""
-    return [sys.executable, "-B", TESTS / name, *arguments]
-
-
 def write_script(folder, calls):
     """The script, and how many lines it has."""
     script = folder / "script"
-    run(tool("generate.py", "1", str(calls)), "/dev/null", script)
+    run([sys.executable, "-B", TESTS / "generate.py", "1", str(calls)], "/dev/null", script)
     return script, script.read_bytes().count(b"\n")
 
 
@@ -50,8 +48,8 @@ def write_trace(folder, calls):
     """The script's calls as a trace, and how many records it has."""
     script, _ = write_script(folder, calls)
     trace = folder / "trace"
-    run(tool("pack.py"), script, trace)
-    return trace, (trace.stat().st_size - START) // RECORD
+    trace.write_bytes(pack(script.read_bytes()))
+    return trace, (trace.stat().st_size - START) // RECORD.size
 
 
 def time_by_turns(commands, source, outputs, runs):

@@ -4,24 +4,23 @@
     tour.py SESSION REPLAY
 
 A session is a fenced block whose first line begins with START, a replay one whose
-first line is TRACE. The lines up to END go to SESSION's standard input, or as a
-trace to REPLAY's; the program's standard output must be the rest of the block,
-byte for byte. Exit status 0 if all are the same and there are at least LEAST
-sessions and a replay, 1 if not, 2 for wrong arguments.
+first line is TRACE. The lines up to END go to SESSION's standard input, or through
+PACK to REPLAY's; the program's standard output must be the rest of the block, byte
+for byte. Exit status 0 if all are the same and there are at least LEAST sessions
+and a replay, 1 if not, 2 for wrong arguments.
 """
 
 import difflib
 import os
-import re
 import subprocess
 import sys
 
-from pack import pack
-
-README = os.path.join(os.path.dirname(os.path.abspath(__file__)), '..', 'README.md')
+ROOT = os.path.join(os.path.dirname(os.path.abspath(__file__)), '..')
+README = os.path.join(ROOT, 'README.md')
+PACK = os.path.join(ROOT, 'tools/pack')
 FENCE = b'```'
 START = b"$ target/bin/session <<'END'"
-TRACE = re.compile(rb"\$ tests/pack\.py([ 0-9]*) <<'END' \| target/bin/replay\n")
+TRACE = b"$ tools/pack <<'END' | target/bin/replay\n"
 END = b'END\n'
 LEAST = 4
 
@@ -43,19 +42,18 @@ def fenced_blocks(lines):
 
 
 def runs(lines):
-    """The sessions and replays as (number of the first line, lengths of sections, input, output).
-    A session has no lengths: None. One without END has no output: None."""
+    """The sessions and replays as (number of the first line, whether a replay, input, output).
+    One without END has no output: None."""
     for number, block in fenced_blocks(lines):
         first = block[0] if block else b''
-        trace = TRACE.fullmatch(first)
-        if not trace and not first.startswith(START):
+        is_replay = first == TRACE
+        if not is_replay and not first.startswith(START):
             continue
-        lengths = [int(word) for word in trace[1].split()] if trace else None
         if END in block:
             place = block.index(END)
-            yield number, lengths, b''.join(block[1:place]), b''.join(block[place + 1:])
+            yield number, is_replay, b''.join(block[1:place]), b''.join(block[place + 1:])
         else:
-            yield number, lengths, b''.join(block[1:]), None
+            yield number, is_replay, b''.join(block[1:]), None
 
 
 def answers(program, script):
@@ -87,16 +85,17 @@ def main():
     session, replay = sys.argv[1:]
     with open(README, 'rb') as file:
         found = list(runs(file.read().splitlines(keepends=True)))
-    sessions = sum(lengths is None for _, lengths, _, _ in found)
-    replays = len(found) - sessions
+    replays = sum(is_replay for _, is_replay, _, _ in found)
+    sessions = len(found) - replays
     good = sessions >= LEAST and replays >= 1
     if not good:
         print('tour: %d sessions and %d replays, at least %d and 1 expected' % (sessions, replays, LEAST))
-    for number, lengths, script, expected in found:
-        if lengths is None:
-            shown = fault(session, script, expected)
+    for number, is_replay, script, expected in found:
+        if is_replay:
+            trace, wrong = answers(PACK, script)
+            shown = ['tools/pack: %s' % wrong] if wrong else fault(replay, trace, expected)
         else:
-            shown = fault(replay, pack(script, lengths), expected)
+            shown = fault(session, script, expected)
         if shown:
             good = False
             print('\n'.join(['tour: block at line %d of README.md' % number] + shown))

@@ -1,0 +1,25 @@
+"""Thymewax for Python: the host side of an I3C controller as a model.
+
+    from thymewax import Model, Register
+
+    model = Model.set_up(cmd=8)
+    model.write(Register.ENABLE, 0)
+    room = model.read(Register.CMD_FIFO_ROOM).value
+
+The shared library is opened with the first model; `python3 -m thymewax.build` makes it.
+"""
+
+from .calls import Call
+from .formats import AddressWord, Ccc, Command, Device, Interrupt, Ops, Receipt
+from .image import Image, Kind, Levels, Phase, Ring, Rings, Transfer
+from .library import LibraryMissing
+from .model import Model, Place, Replayed, SetUp, section, sections
+from .numbers import MEANINGS, Answer, Number, Refused
+from .registers import OFFLOAD_CMD, OFFLOAD_SDO, Config, Irq, Register, Status, name_of
+
+__all__ = [
+    'AddressWord', 'Answer', 'Call', 'Ccc', 'Command', 'Config', 'Device', 'Image', 'Interrupt',
+    'Irq', 'Kind', 'Levels', 'LibraryMissing', 'MEANINGS', 'Model', 'Number', 'OFFLOAD_CMD',
+    'OFFLOAD_SDO', 'Ops', 'Phase', 'Place', 'Receipt', 'Refused', 'Register', 'Replayed', 'Ring',
+    'Rings', 'SetUp', 'Status', 'Transfer', 'name_of', 'section', 'sections',
+]

@@ -1,0 +1,172 @@
+"""The image of a bank by names: what each of its 200 words holds.
+
+For tools that look. What is read here is the model's own; nothing is worked out again.
+"""
+
+from __future__ import annotations
+
+from collections.abc import Sequence
+from enum import IntEnum
+from typing import NamedTuple
+
+from .formats import Device
+from .registers import Irq
+
+WORDS = 200
+_RING_WORDS = 4
+_PENDING = (Irq.CMDR_PENDING, Irq.IBI_PENDING, Irq.DAA_PENDING)
+
+
+class Phase(IntEnum):
+    """How far the open transfer is."""
+
+    IDLE = 0
+    WRITING = 1
+    READING = 2
+    ASSIGNING = 3
+    ASSIGNING_REQUEST_OPEN = 4
+    ASSIGNING_SOME_ANSWERED = 5
+
+
+class Kind(IntEnum):
+    """What kind of command the open transfer has."""
+
+    PRIVATE = 0
+    DIRECT_CCC = 1
+    BROADCAST_CCC = 2
+
+
+class Ring(NamedTuple):
+    """A queue: its size, its watermark, the place of its first word, and how many it has."""
+
+    capacity: int
+    watermark: int
+    head: int
+    level: int
+
+
+class Rings(NamedTuple):
+    cmd: Ring
+    cmdr: Ring
+    sdo: Ring
+    sdi: Ring
+    ibi: Ring
+
+
+class Levels(NamedTuple):
+    """Words in each queue."""
+
+    cmd: int
+    cmdr: int
+    sdo: int
+    sdi: int
+    ibi: int
+
+
+class Transfer(NamedTuple):
+    """The open transfer; all 0 where the phase is IDLE. Lengths are in bytes."""
+
+    phase: Phase
+    kind: Kind
+    header: bool
+    length: int
+    moved: int
+    attached: bool
+    part_word: int
+
+
+class Image(tuple[int, ...]):
+    """The words of an image at one moment."""
+
+    __slots__ = ()
+
+    @property
+    def rings(self) -> Rings:
+        return Rings(*(Ring(*self[at:at + _RING_WORDS])
+                       for at in range(0, _RING_WORDS * len(Rings._fields), _RING_WORDS)))
+
+    @property
+    def levels(self) -> Levels:
+        return Levels(*(ring.level for ring in self.rings))
+
+    @property
+    def device_id(self) -> int:
+        return self[20]
+
+    @property
+    def scratch(self) -> int:
+        return self[21]
+
+    @property
+    def irq_mask(self) -> Irq:
+        return Irq(self[22])
+
+    @property
+    def ops(self) -> int:
+        """Bits 6:0 of OPS."""
+        return self[23]
+
+    @property
+    def ibi_config(self) -> int:
+        return self[24]
+
+    @property
+    def selected(self) -> int:
+        """The device address that DEV_CHAR selects."""
+        return self[25]
+
+    @property
+    def held(self) -> bool:
+        """Whether the bank is held in reset."""
+        return bool(self[26])
+
+    @property
+    def receipt_sync(self) -> int:
+        return self[27]
+
+    @property
+    def interrupt_sync(self) -> int:
+        return self[28]
+
+    @property
+    def pending(self) -> Irq:
+        """Those of the pending bits 5 to 7 that are set."""
+        bits = Irq(0)
+        for bit, word in zip(_PENDING, self[29:32]):
+            bits |= bit if word else Irq(0)
+        return bits
+
+    @property
+    def burst_place(self) -> int | None:
+        """The place of the open burst's command at hand; None where no burst is open."""
+        return self[32] - 1 if self[32] else None
+
+    @property
+    def transfer(self) -> Transfer:
+        phase, kind, header, length, moved, attached, part = self[33:40]
+        return Transfer(Phase(phase), Kind(kind), bool(header), length, moved, bool(attached), part)
+
+    @property
+    def device_flags(self) -> tuple[int, ...]:
+        """The stored flags of the 128 devices."""
+        return self[40:168]
+
+    def device(self, address: int) -> Device:
+        """A device with its stored flags."""
+        return Device.of(address << 9 | self.device_flags[address] << 1)
+
+    @property
+    def offload_commands(self) -> tuple[int, ...]:
+        return self[168:184]
+
+    @property
+    def offload_data(self) -> tuple[int, ...]:
+        return self[184:200]
+
+    def queue(self, name: str, store: Sequence[int]) -> tuple[int, ...]:
+        """The words of a queue (`cmd`, `cmdr`, `sdo`, `sdi`, `ibi`) in order, out of the store."""
+        place = Rings._fields.index(name)
+        base = sum(ring.capacity for ring in self.rings[:place])
+        ring = self.rings[place]
+        return tuple(store[base + (ring.head + entry) % ring.capacity]
+                     for entry in range(ring.level))

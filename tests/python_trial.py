@@ -1,0 +1,67 @@
+"""What the tests of the Python binding and of the tools share: comparisons that are counted, and
+runs of programs."""
+
+import os
+import pathlib
+import subprocess
+import sys
+from collections import Counter
+
+ROOT = pathlib.Path(__file__).resolve().parent.parent
+PACKAGE = ROOT / 'bindings/python'
+sys.path.insert(0, str(PACKAGE))
+
+
+class Wrong(Exception):
+    """A comparison that failed."""
+
+
+TRIED = Counter()
+
+
+def equal(kind, name, got, wanted):
+    """Counts a comparison of a kind."""
+    TRIED[kind] += 1
+    if got != wanted:
+        raise Wrong('%s, %s: %r, expected %r' % (kind, name, got, wanted))
+
+
+def raises(kind, name, error, function, *arguments, **named):
+    """The error that a call raises, which must be of a class."""
+    TRIED[kind] += 1
+    try:
+        got = function(*arguments, **named)
+    except error as raised:
+        return raised
+    raise Wrong('%s, %s: %r, expected %s' % (kind, name, got, error.__name__))
+
+
+def run(command, data=b'', **variables):
+    """Status, output and messages of a program."""
+    done = subprocess.run([str(word) for word in command], input=data, capture_output=True,
+                          check=False, env={**os.environ, 'PYTHONDONTWRITEBYTECODE': '1',
+                                            **variables})
+    return done.returncode, done.stdout, done.stderr
+
+
+def tool(name, *arguments, data=b'', **variables):
+    return run([sys.executable, ROOT / 'tools' / name, *arguments], data, **variables)
+
+
+def generated(seed, calls, *more):
+    """The script of a seed."""
+    status, script, _ = run([sys.executable, ROOT / 'tests/generate.py', seed, calls, *more])
+    if status:
+        raise Wrong('generate.py: status %d' % status)
+    return script
+
+
+def main(name, parts, *arguments):
+    """Runs the parts and ends the program. The last line says what was tried."""
+    try:
+        for part in parts:
+            part(*arguments)
+    except Wrong as wrong:
+        sys.exit('%s: %s' % (name, wrong))
+    print('%s: all as expected: %s' % (name, ', '.join(
+        '%s: %d' % pair for pair in TRIED.items())))

@@ -1,0 +1,168 @@
+#!/usr/bin/env python3
+"""Input that a tool cannot use: status 2, one line on standard error, nothing on standard output.
+Output that it cannot write is told the same way.
+
+    tools_errors.py
+
+Needs the shared library. Exit status 0 only if all is as expected.
+"""
+
+import pathlib
+import subprocess
+import sys
+import tempfile
+
+from python_trial import ROOT, equal, main, tool
+
+import faults
+from pack import join, pack
+from thymewax import SetUp
+from traces import expected
+
+TOOLS = ('pack', 'unpack', 'explain', 'wave')
+RUNNING = ('explain', 'wave')
+RIGHT = b'W 40 0\nR c0\n'
+# Lines that are no calls, with what the message must show.
+NO_CALLS = [
+    (b'w 40 0', "'w 40 0'"), (b'W 40', "'W 40'"), (b'W 40  0', "'W 40  0'"),
+    (b'W 00040 0', "'W 00040 0'"),
+    (b'R c0\r', r"'R c0\r'"), (b'F 100', "'F 100'"), (b'X', "'X'"), (b'S ', "'S '"),
+    (b' # comment', '# comment'), (b'--', "'--'"), (b'\xff\0', r"'\xff\x00'"), (b'G', "'G'"),
+    (b'W 40 0 ' + b'x' * 100000, "'W 40 0 xxx"),
+]
+MESSAGES = {24: "24: the trace's mark is wrong", 25: "25: the trace's table or length is wrong",
+            27: '27: a record of the trace is wrong'}
+
+
+def refuses(name, *arguments, data=RIGHT, told=(), **variables):
+    status, output, message = tool(name, *arguments, data=data, **variables)
+    case = '%s %s' % (name, arguments)
+    equal(name, case, (status, output), (2, b''))
+    equal(name, case, (message[:len(name) + 2], message.count(b'\n'), message[-1:]),
+          (b'%s: ' % name.encode(), 1, b'\n'))
+    for part in told:
+        equal(name, '%s: %s' % (case, message), part in message.decode(), True)
+
+
+def arguments():
+    for name in TOOLS:
+        refuses(name, '/nonexistent/file', told=['/nonexistent/file'])
+        refuses(name, ROOT, told=[str(ROOT)])
+        refuses(name, '--nothing')
+        refuses(name, 'one', 'two')
+
+
+def lines():
+    for name in ('pack', *RUNNING):
+        for line, shown in NO_CALLS:
+            refuses(name, data=b'R c0\n' * 9 + line + b'\n' + RIGHT, told=['line 10 ', shown])
+
+
+def many_sections():
+    for name in ('pack', *RUNNING):
+        refuses(name, data=RIGHT + b'---\n' * 64, told=['65 sections, at most 64'])
+        status, _, message = tool(name, data=RIGHT + b'---\n' * 63 + RIGHT)
+        equal(name, '64 sections', (status, message), (0, b''))
+
+
+def not_for_pack():
+    refuses('pack', data=pack(RIGHT), told=['trace already'])
+    most = (16 * 1024 * 1024 - 14) // 12
+    refuses('pack', data=b'S\n' * (most + 1), told=['bytes, at most 16777216'])
+
+
+def broken_traces():
+    """A damaged trace of each kind; scripts are what else the running tools take."""
+    seen = set()
+    for kind in faults.KINDS:
+        for case, trace in kind():
+            number = expected(trace)[1]
+            if number and (kind, number) not in seen:
+                seen.add((kind, number))
+                refuses('unpack', data=trace, told=[MESSAGES[number_told(trace, number)]])
+                if number != 24:
+                    for name in RUNNING:
+                        refuses(name, data=trace, told=[MESSAGES[number_told(trace, number)]])
+    for data in (b'', b'I3T', RIGHT):
+        refuses('unpack', data=data, told=[MESSAGES[24]])
+
+
+def number_told(trace, number):
+    """A tool has the whole file before it, as the library has: a wrong length goes before a wrong
+    record, which a replay of a stream meets first."""
+    count = int.from_bytes(trace[4:6], 'little')
+    starts = [int.from_bytes(trace[place:place + 4], 'little')
+              for place in range(10, 6 + 8 * count, 8)]
+    return 25 if number == 27 and 6 + 8 * count + 12 * sum(starts) != len(trace) else number
+
+
+def wrong_record():
+    """The place of the wrong record is told."""
+    trace = join(faults.DATA, [7, 0])
+    place = 6 + 3 * 8 + 12 * (7 + 5)
+    broken = trace[:place] + b'Q' + trace[place + 1:]
+    for name in ('unpack', *RUNNING):
+        refuses(name, data=broken, told=['section 2, record 5', MESSAGES[27]])
+
+
+def set_ups():
+    for field in SetUp._fields:
+        option = '--' + field.replace('_', '-')
+        refuses('explain', option, '2000', told=['23: a set-up number is out of range'])
+    for name in RUNNING:
+        for number, told in (('2000', '23: '), ('-1', 'cmd_mark'), (str(1 << 32), 'cmd_mark'),
+                             ('four', '--cmd-mark')):
+            refuses(name, '--cmd-mark', number, told=[told])
+
+
+def recordings():
+    with tempfile.TemporaryDirectory() as folder:
+        path = pathlib.Path(folder) / 'recorded'
+        refuses('explain', '--recorded', path, told=[str(path)])
+        refuses('explain', '--recorded', '', told=['No such file'])
+        refuses('explain', '--recorded', '-', told=['cannot both be standard input'])
+        path.write_bytes(RIGHT)
+        refuses('explain', '--recorded', '-', '-', told=['cannot both be standard input'])
+        status, output, _ = tool('explain', '--recorded', '-', path, data=b'4\n')
+        equal('explain', 'recording as input', (status, b'no difference' in output), (0, True))
+        for text, line in (('4\nxyz\n', 2), ('00000004 00\n4\n', 2), ('4\n00000004 00\n', 1),
+                           ('123456789\n', 1), ('4\n\n4\n', 2), ('00000004 0\n', 1)):
+            path.write_text(text)
+            refuses('explain', '--recorded', path, told=['recording, line %d:' % line])
+
+
+def no_library():
+    for name in RUNNING:
+        refuses(name, THYMEWAX_LIB_DIR='/nonexistent', told=['python3 -m thymewax.build'])
+
+
+def closed_output():
+    """A reader that stops early is no fault, and there is no message."""
+    for name in ('unpack', *RUNNING):
+        data = pack(RIGHT * 20000)
+        child = subprocess.Popen([sys.executable, '-B', ROOT / 'tools' / name],
+                                 stdin=subprocess.PIPE, stdout=subprocess.PIPE,
+                                 stderr=subprocess.PIPE)
+        child.stdout.close()
+        child.stdin.write(data)
+        child.stdin.close()
+        message = child.stderr.read()
+        equal('closed output', name, (child.wait(), message), (0, b''))
+
+
+def full_output():
+    """A full disk: short output is written at the end, long output before."""
+    for name in TOOLS:
+        for script in (RIGHT, RIGHT * 5000):
+            with open('/dev/full', 'wb') as full:
+                done = subprocess.run([sys.executable, '-B', ROOT / 'tools' / name], stdout=full,
+                                      stderr=subprocess.PIPE, check=False,
+                                      input=pack(script) if name == 'unpack' else script)
+            equal('full output', name, (done.returncode, done.stderr),
+                  (2, b'%s: output: No space left on device\n' % name.encode()))
+
+
+if __name__ == '__main__':
+    main('tools_errors', [arguments, lines, many_sections, not_for_pack, broken_traces,
+                          wrong_record, set_ups, recordings, no_library, closed_output,
+                          full_output])

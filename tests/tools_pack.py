@@ -1,0 +1,83 @@
+#!/usr/bin/env python3
+"""tools/pack and tools/unpack: round trips over generated scripts.
+
+    tools_pack.py
+
+Exit status 0 only if all is as expected.
+"""
+
+from python_trial import equal, generated, main, tool
+
+from generate import Source
+from thymewax import session, trace
+
+SEEDS = (1, 2, 3)
+LENGTHS = (0, 7, 5000)
+SECTIONS = (1, 7, 64)
+MARKERS = (b'---', b'--- warm up', b'----', b'---\r')
+
+
+def sectioned(source, script, sections):
+    """The script with marker lines at random places."""
+    lines = session.lines(script)
+    for _ in range(sections - 1):
+        lines.insert(source.below(len(lines) + 1), source.pick(MARKERS))
+    return b'\n'.join(lines) + b'\n'
+
+
+def wanted_calls(script):
+    """The calls of each section, the marker lines cut out by hand."""
+    parts = [[]]
+    for line in script.split(b'\n'):
+        if line[:3] == b'---':
+            parts.append([])
+        elif session.call_of(line):
+            parts[-1].append(session.call_of(line))
+    return parts
+
+
+def made(name, kind, *arguments, data):
+    status, output, message = tool(name, *arguments, data=data)
+    equal(kind, name, (status, message), (0, b''))
+    return output
+
+
+def round_trips():
+    for seed in SEEDS:
+        source = Source(seed)
+        for length in LENGTHS:
+            script = generated(seed, length)
+            for sections in SECTIONS:
+                both_ways(sectioned(source, script, sections), sections)
+
+
+def both_ways(script, sections):
+    """Pack gives the calls of the script; unpack gives them again; pack of that the same bytes."""
+    file = made('pack', 'pack', '--skip', data=script)
+    parts = [list(trace.calls(part)) for part in trace.sections(file)]
+    equal('pack', 'sections', len(parts), sections)
+    equal('pack', 'calls', parts, wanted_calls(script))
+    again = made('unpack', 'unpack', data=file)
+    equal('unpack', 'calls', wanted_calls(again), parts)
+    equal('unpack, then pack', 'bytes', made('pack', 'pack', data=again), file)
+
+
+def strict():
+    """Without --skip: comments and empty lines are skipped, and a clean script needs no option."""
+    script = b'# release\nW 40 0\n\n---\n#W 40 0\nR 0C0'
+    file = made('pack', 'strict', data=script)
+    equal('strict', 'script', made('unpack', 'strict', data=file),
+          b'W 0040 00000000\n---\nR 00c0\n')
+    equal('strict', 'with --skip', made('pack', 'strict', '--skip', data=script), file)
+
+
+def help_texts():
+    for name in ('pack', 'unpack', 'explain', 'wave'):
+        status, output, message = tool(name, '--help')
+        equal('help', name, (status, message, output.startswith(b'usage: %s ' % name.encode())),
+              (0, b'', True))
+        equal('help', name, b'---' in output, True)
+
+
+if __name__ == '__main__':
+    main('tools_pack', [round_trips, strict, help_texts])

@@ -1,0 +1,96 @@
+"""Which commands were taken, started and finished, and which receipts were read.
+
+All of it is counted from the calls and their answers, as 01 counts for demand 3.
+"""
+
+from collections import deque
+from dataclasses import dataclass, field
+
+from inputs import Made
+from thymewax import Command, Register
+
+
+@dataclass
+class Entry:
+    """A command that CMD took, of a CCC perhaps the first word alone: its words, and the calls that
+    wrote, started and finished it."""
+
+    words: list[int]
+    written: int
+    started: int = 0
+    finished: int = 0
+
+    @property
+    def whole(self) -> bool:
+        return len(self.words) > Command.of(self.words[0]).ccc
+
+
+@dataclass
+class Ledger:
+    """The commands by how far they are. `lost` are those that a reset left without a receipt read,
+    with the call that reset."""
+
+    waiting: deque[Entry] = field(default_factory=deque)
+    open: Entry | None = None
+    unread: deque[Entry] = field(default_factory=deque)
+    lost: list[tuple[Entry, int]] = field(default_factory=list)
+    taken: int = 0
+    started: int = 0
+    finished: int = 0
+    receipts_read: int = 0
+
+    @property
+    def awaits_second(self) -> bool:
+        """Whether the next word of CMD is the second of a CCC."""
+        return bool(self.waiting) and not self.waiting[-1].whole
+
+    def follow(self, made: Made) -> Entry | None:
+        """Counts a call; gives the command that it was about, if it was done and about one."""
+        if not made.answer.done:
+            return None
+        about = {
+            ('W', Register.CMD_FIFO): self._take,
+            ('W', Register.ENABLE): self._enable,
+            ('R', Register.CMDR_FIFO): self._read,
+            ('S', 0): self._start,
+            ('F', 0): self._finish,
+        }.get((made.call.letter, made.call.offset))
+        return about(made) if about else None
+
+    def _take(self, made: Made) -> Entry:
+        if self.awaits_second:
+            self.waiting[-1].words.append(made.call.first)
+        else:
+            self.waiting.append(Entry([made.call.first], made.number))
+        # The first word of a CCC alone is no command yet.
+        self.taken += self.waiting[-1].whole
+        return self.waiting[-1]
+
+    def _start(self, made: Made) -> Entry:
+        self.open = self.waiting.popleft()
+        self.open.started = made.number
+        self.started += 1
+        return self.open
+
+    def _finish(self, made: Made) -> Entry | None:
+        # A transfer of a burst is no command of CMD and has no receipt.
+        if self.open is None:
+            return None
+        done, self.open = self.open, None
+        done.finished = made.number
+        self.unread.append(done)
+        self.finished += 1
+        return done
+
+    def _read(self, made: Made) -> Entry:
+        self.receipts_read += 1
+        return self.unread.popleft()
+
+    def _enable(self, made: Made) -> None:
+        if not made.call.first & 1:
+            return
+        for entry in [*self.unread, *([self.open] if self.open else []), *self.waiting]:
+            self.lost.append((entry, made.number))
+        self.unread.clear()
+        self.waiting.clear()
+        self.open = None

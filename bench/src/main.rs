@@ -2,6 +2,7 @@
 //! several processes and prints tables. `bench [PROCESSES [LIST]]`: 5 processes and every list where
 //! none is given.
 
+mod host;
 mod measure;
 mod model;
 mod verify;

@@ -1,6 +1,7 @@
 //! The proved model: the functions of the archives that `rt staticlib timing_list` and
-//! `rt staticlib timing_each` write.
+//! `rt staticlib timing_each` write, and the ways to replay a trace by them and by libhost.a.
 
+use crate::host;
 use bench::plain::replay::Ran;
 use bench::plain::Answer;
 
@@ -37,42 +38,55 @@ extern "C" {
 /// One way to replay a trace.
 pub struct Variant {
     pub name: &'static str,
-    exported: Exported,
+    run: fn(u32, &mut [u32], &[u8]) -> Ran,
 }
 
-pub const VARIANTS: [Variant; 2] = [
+pub const VARIANTS: [Variant; 4] = [
     Variant {
         name: "one call for the trace",
-        exported: replay_trace,
+        run: |cap, store, file| timed(replay_trace, cap, store, file),
     },
     Variant {
         name: "record by record",
-        exported: replay_each,
+        run: |cap, store, file| timed(replay_each, cap, store, file),
+    },
+    Variant {
+        name: "libhost: one call for the trace",
+        run: host::replay,
+    },
+    Variant {
+        name: "libhost: a call for each record",
+        run: host::step_by_step,
     },
 ];
 
 impl Variant {
     /// Sets up a bank with every capacity `cap` and replays section 0 of a trace file.
     pub fn replay(&self, cap: u32, store: &mut [u32], file: &[u8]) -> Ran {
-        // No answer has this number: the function must write its own.
-        let mut last = [u32::MAX; 2];
-        // SAFETY: each place and length is of a slice that lives through the call, and no two of
-        // the three overlap. The function is proved safe for any contents.
-        let made = unsafe {
-            (self.exported)(
-                cap,
-                store.as_mut_ptr(),
-                store.len(),
-                file.as_ptr(),
-                file.len(),
-                last.as_mut_ptr(),
-                last.len(),
-            )
-        };
-        let answer = Answer {
-            value: last[0],
-            number: last[1],
-        };
-        Ran { made, answer }
+        (self.run)(cap, store, file)
     }
+}
+
+/// A replay by a function of the timing archives.
+fn timed(exported: Exported, cap: u32, store: &mut [u32], file: &[u8]) -> Ran {
+    // No answer has this number: the function must write its own.
+    let mut last = [u32::MAX; 2];
+    // SAFETY: each place and length is of a slice that lives through the call, and no two of the
+    // three overlap. The function is proved safe for any contents.
+    let made = unsafe {
+        exported(
+            cap,
+            store.as_mut_ptr(),
+            store.len(),
+            file.as_ptr(),
+            file.len(),
+            last.as_mut_ptr(),
+            last.len(),
+        )
+    };
+    let answer = Answer {
+        value: last[0],
+        number: last[1],
+    };
+    Ran { made, answer }
 }

@@ -26,7 +26,7 @@ impl Times {
 }
 
 /// The time of one run, in nanoseconds a record.
-fn time(trace: &Trace, store: &mut [u32], run: impl FnOnce(&mut [u32], &[u8])) -> f64 {
+fn time(trace: &Trace, store: &mut Vec<u32>, run: impl FnOnce(&mut Vec<u32>, &[u8])) -> f64 {
     store.fill(0);
     let start = Instant::now();
     run(black_box(&mut *store), black_box(trace.file()));

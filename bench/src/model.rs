@@ -38,7 +38,7 @@ extern "C" {
 /// One way to replay a trace.
 pub struct Variant {
     pub name: &'static str,
-    run: fn(u32, &mut [u32], &[u8]) -> Ran,
+    run: fn(u32, &mut Vec<u32>, &[u8]) -> Ran,
 }
 
 pub const VARIANTS: [Variant; 4] = [
@@ -62,7 +62,7 @@ pub const VARIANTS: [Variant; 4] = [
 
 impl Variant {
     /// Sets up a bank with every capacity `cap` and replays section 0 of a trace file.
-    pub fn replay(&self, cap: u32, store: &mut [u32], file: &[u8]) -> Ran {
+    pub fn replay(&self, cap: u32, store: &mut Vec<u32>, file: &[u8]) -> Ran {
         (self.run)(cap, store, file)
     }
 }

@@ -51,8 +51,8 @@ pub enum Call {
 
 impl Call {
     /// Letter, offset and two values. Arguments fill the values in order, the rest is 0.
-    pub(crate) fn numbers(self) -> [u32; 4] {
-        let (letter, offset, first, second) = match self {
+    pub(crate) fn numbers(self) -> (u8, u16, u32, u32) {
+        match self {
             Call::Write { offset, value } => (b'W', offset, value, 0),
             Call::Read { offset } => (b'R', offset, 0, 0),
             Call::Start => (b'S', 0, 0, 0),
@@ -63,7 +63,6 @@ impl Call {
             Call::Request { first, second } => (b'D', 0, first, second),
             Call::TakeAddress => (b'A', 0, 0, 0),
             Call::Trigger => (b'G', 0, 0, 0),
-        };
-        [letter.into(), offset.into(), first, second]
+        }
     }
 }

@@ -74,6 +74,11 @@ impl Model {
         }
     }
 
+    /// Image, store and output, the parts for [`from_parts`](Model::from_parts).
+    pub fn into_parts(self) -> ([u32; IMAGE_WORDS], Vec<u32>, Vec<u32>) {
+        (self.image, self.store, self.output)
+    }
+
     /// All of the state but the words in the queues.
     pub fn image(&self) -> &[u32; IMAGE_WORDS] {
         &self.image
@@ -99,11 +104,34 @@ impl Model {
 
     /// Any call. The methods below are each one of them.
     pub fn step(&mut self, call: Call) -> Answer {
+        let (letter, offset, first, second) = call.numbers();
+        self.step_numbers(letter, offset, first, second)
+    }
+
+    /// The call that the numbers of a record of a trace name, for hosts that go through the records
+    /// of a [`section`](crate::section) themselves.
+    ///
+    /// Numbers that name no call are answered [`Number::WRONG_RECORD`]. All are tested, but two
+    /// things are left to the caller: the record's second byte must be 0, and the letter `G`, the
+    /// trigger here, is none of a record.
+    ///
+    /// ```
+    /// use thymewax::{registers, Model, Number, SetUp};
+    ///
+    /// let mut model = Model::set_up(&SetUp::SESSION)?;
+    /// model.step_numbers(b'W', registers::ENABLE, 0, 0).done()?;
+    /// assert_eq!(model.step_numbers(b'S', 0, 0, 0), model.start());
+    /// // A start has no arguments, and no call is `Q`.
+    /// assert_eq!(model.step_numbers(b'S', 0, 1, 0).number, Number::WRONG_RECORD);
+    /// assert_eq!(model.step_numbers(b'Q', 0, 0, 0).number, Number::WRONG_RECORD);
+    /// # Ok::<(), thymewax::Refusal>(())
+    /// ```
+    pub fn step_numbers(&mut self, letter: u8, offset: u16, first: u32, second: u32) -> Answer {
         Answer::of_halves(raw::step(
             &mut self.image,
             &mut self.store,
             &mut self.output,
-            call.numbers(),
+            [letter.into(), offset.into(), first, second],
         ))
     }
 

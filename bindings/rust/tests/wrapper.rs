@@ -44,6 +44,20 @@ const CALLS: [Call; 10] = [
     Call::Trigger,
 ];
 
+/// The numbers of each, in the same order.
+const NUMBERS: [(u8, u16, u32, u32); 10] = [
+    (b'W', registers::CMD_FIFO, 0x0000_0310, 0),
+    (b'R', registers::DEV_CHAR, 0, 0),
+    (b'S', 0, 0, 0),
+    (b'T', 0, 0, 0),
+    (b'X', 0, 0x5a, 0),
+    (b'F', 0, 6, 0),
+    (b'I', 0, 8, 0x5a),
+    (b'D', 0, 0x0123_4567, 0x89ab_cdef),
+    (b'A', 0, 0, 0),
+    (b'G', 0, 0, 0),
+];
+
 /// The method of a call.
 fn by_method(model: &mut Model, call: Call) -> Answer {
     match call {
@@ -106,6 +120,36 @@ fn each_method_is_its_call() {
             done += usize::from(answer.is_done());
         }
         assert!(done > 0, "{call:?} was never done");
+    }
+}
+
+#[test]
+fn numbers_make_their_call() {
+    for (call, (letter, offset, first, second)) in CALLS.into_iter().zip(NUMBERS) {
+        for state in states() {
+            let (mut one, mut other) = (state.clone(), state);
+            let answer = one.step_numbers(letter, offset, first, second);
+            assert_eq!(answer, other.step(call), "{call:?}");
+            assert_eq!(one, other, "{call:?}");
+        }
+    }
+}
+
+#[test]
+fn numbers_without_a_call_are_answered() {
+    let others = (0..=u8::MAX).filter(|letter| NUMBERS.iter().all(|(used, ..)| used != letter));
+    let letters = others.map(|letter| (letter, 0, 0, 0));
+    let arguments = [
+        (b'W', 0, 0, 1),
+        (b'S', 1, 0, 0),
+        (b'X', 0, 0x100, 0),
+        (b'I', 0, 8, 0x100),
+    ];
+    for (letter, offset, first, second) in letters.chain(arguments) {
+        let mut model = released();
+        let answer = model.step_numbers(letter, offset, first, second);
+        assert_eq!((answer.value, answer.number), (0, Number::WRONG_RECORD));
+        assert_eq!(model, released());
     }
 }
 
@@ -211,6 +255,9 @@ fn a_snapshot_goes_on() {
         let (store, output) = (state.store().to_vec(), state.output().to_vec());
         let mut kept = Model::from_parts(image, store, output);
         let mut model = state;
+        assert_eq!(kept, model);
+        let (image, store, output) = kept.into_parts();
+        kept = Model::from_parts(image, store, output);
         assert_eq!(kept, model);
         for call in CALLS {
             assert_eq!(kept.step(call), model.step(call));

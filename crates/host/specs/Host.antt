@@ -25,7 +25,7 @@ pub record Fresh : Type 0 where
   pub number : ℕ
   pub image : List ℕ
 
--- "a set-up answered 23 leaves the image as it was", and so does 21, for an image of another length
+-- a set-up answered 23 leaves the image as it was, and so does 21, for an image of another length
 unfoldable pub setUpIn : List ℕ → Sizes → Sizes → ℕ → Fresh
 setUpIn ws caps marks id =
     let r = setUp caps marks id in

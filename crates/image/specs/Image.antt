@@ -115,6 +115,6 @@ same (x ∷ xs) (y ∷ ys) = eqb x y && same xs ys
 abbrev pub encoded : List ℕ → Bool
 encoded ws = same (imageOf (bankIn ws)) ws
 
--- "one that encodes no well-formed bank, or has the wrong length, is answered 21"
+-- an image has so many words, and they are those of a well-formed bank; others are answered 21
 abbrev pub isImage : List ℕ → Bool
 isImage ws = eqb (length ws) size && (encoded ws && wellFormed (bankIn ws))

@@ -16,7 +16,7 @@ inTypes b =
     leb (s .regs .id) 255 && leb (s .regs .mask) 255 && leb (s .control .sync) 255 && leb (s .control .ibisync) 255
     && leb (s .control .burst) 255 && eqb (length (b .flags)) 128 && eqb (length (b .commands)) 16 && eqb (length (b .payloads)) 16
 
--- "decoding an encoded well-formed bank gives it back"
+-- a well-formed bank comes back out of its words
 unfoldable pub EncodedIsRead : Type 0
 EncodedIsRead = (b : Bank) → inTypes b ≡ true → wellFormed b ≡ true → (isImage (imageOf b) ≡ true) × (bankIn (imageOf b) ≡ b)
 

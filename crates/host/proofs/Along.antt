@@ -5,7 +5,7 @@ use mathlib.Core.Bool.{true}
 use mathlib.Core.List.{List, [], _∷_}
 use lib.Dec.{leb}
 use Rattle.bank.specs.declared.Bank.{Bank}
-use Rattle.bank.specs.SetUp.{setUp, sizesOk, bankOf}
+use Rattle.bank.specs.SetUp.{sizesOk, bankOf}
 use Rattle.bank.specs.Formed.{wellFormed}
 use Rattle.bank.proofs.Bools.{and-true}
 use Rattle.bank.proofs.Laws.{in-range, bank-is}

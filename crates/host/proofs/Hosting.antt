@@ -1,10 +1,9 @@
 -- What a host's call is, by the tests that the code makes on an image.
-use Prim.Native.Nat.{ℕ, zero, suc, _%_, _^_}
+use Prim.Native.Nat.{ℕ}
 use native.Mathlib.Omega.{arith}
 use mathlib.Core.Path.{_≡_, refl, ap, sym, _∙_}
-use mathlib.Core.Bool.{Bool, true, false, cond, not, _&&_}
+use mathlib.Core.Bool.{Bool, true, false, cond}
 use mathlib.Core.List.{List, []}
-use lib.Dec.{eqb}
 use lib.ListN.{length}
 use borrow.Author.Tests.{eq-eqb, ne-eqb}
 use Rattle.bank.specs.declared.Sizes.{Sizes}
@@ -14,15 +13,14 @@ use Rattle.model.specs.declared.Call.{Call}
 use Rattle.model.specs.Engine.{Step, step}
 use Rattle.model.specs.Rings.{Controller, rings}
 use Rattle.answer.specs.Given.{controller}
-use Rattle.controller.specs.Faults.{faultNumber, faultBy}
 use Rattle.controller.proofs.Guards.{faulty}
 use Rattle.lines.specs.declared.Parsed.{Parsed}
 use Rattle.lines.specs.declared.Parsed.the-variants.{Named, Skipped}
 use Rattle.record.specs.Record.{onward, each, recordAt}
 use Rattle.playback.specs.Replay.{Replay, begun, did, wrong, played, replayOf}
-use Rattle.image.specs.Image.{size, imageOf, bankIn, encoded, isImage}
+use Rattle.image.specs.Image.{imageOf, bankIn, encoded, isImage}
 use Rattle.image.proofs.Words.{same-eq}
-use Rattle.host.specs.Host.{Fresh, setUpIn, Hosted, hosted, refusal, stepIn, Replayed, leftBy, refusedReplay, replayIn}
+use Rattle.host.specs.Host.{setUpIn, Hosted, hosted, refusal, stepIn, leftBy, refusedReplay, replayIn}
 
 -- ── Words that are no image ───────────────────────────────────────────────────────────────────────────────────
 pub wrong-size : (ws : List ℕ) → (length ws ≡ 200 → ⊥) → isImage ws ≡ false

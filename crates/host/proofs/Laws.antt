@@ -21,14 +21,14 @@ use Rattle.trace.specs.Format.{lookNumber, section}
 use Rattle.trace.proofs.Sections.{refused, found, handed-length, within}
 use Rattle.record.specs.Record as records
 use Rattle.record.specs.Record.{rec, namedIn, recordAt, each, onward}
-use Rattle.record.specs.Writer.{recordOf, writable}
+use Rattle.record.specs.Writer.{recordOf}
 use Rattle.record.proofs.Writing.{call-named}
-use Rattle.playback.specs.Replay.{Replay, begun, did, wrong, played, replayOf}
+use Rattle.playback.specs.Replay.{Replay, begun, did, wrong, replayOf}
 use Rattle.playback.proofs.Laws.{refuses, plays}
 use Rattle.image.specs.Image.{imageOf, bankIn, isImage}
 use Rattle.image.specs.Laws.{ImageIsEncoded}
 use Rattle.image.proofs.Laws.{image-is-encoded}
-use Rattle.host.specs.Host.{triggers, callOf, hosted, refusal, stepIn, leftBy, refusedReplay, replayIn}
+use Rattle.host.specs.Host.{triggers, hosted, refusal, stepIn, leftBy, refusedReplay, replayIn}
 use Rattle.host.specs.Laws.{CalledIsNamed, RefusedStays, RefusedReplayStays, NothingCut}
 use Rattle.host.proofs.Calling.{recorded, triggered}
 

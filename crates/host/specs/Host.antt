@@ -1,13 +1,12 @@
 -- The calls of a host: on a bank that is kept as an image, and a store, an output and a trace that are lent.
 use Prim.Native.Nat.{ℕ, _+_, _*_, _%_, _^_}
 use mathlib.Core.Bool.{Bool, cond, _&&_}
-use mathlib.Core.List.{List, [], _∷_}
+use mathlib.Core.List.{List, []}
 use lib.Dec.{eqb}
 use lib.ListN.{length, set}
 use Rattle.bank.specs.declared.Answer.{Answer}
 use Rattle.bank.specs.declared.Sizes.{Sizes}
 use Rattle.bank.specs.SetUp.{setUp}
-use Rattle.model.specs.declared.Call.{Call}
 use Rattle.model.specs.declared.Call.the-variants.{Trigger}
 use Rattle.model.specs.Engine.{Step, step}
 use Rattle.model.specs.Rings.{Controller, rings}

@@ -1,5 +1,5 @@
 -- What the calls of a host promise beside their definitions: every call has its numbers, a refusal changes nothing, nothing told is cut.
-use Prim.Native.Nat.{ℕ, _<_, _≤_, _^_}
+use Prim.Native.Nat.{ℕ, _<_, _^_}
 use mathlib.Core.Path.{_≡_}
 use mathlib.Core.Bool.{true}
 use mathlib.Core.List.{List}

@@ -1,9 +1,8 @@
 -- `host::no_call` meets its contract.
 use borrow.Author.Needs.{needs}
-use mathlib.Core.Path.{_≡_, refl, ap, sym, _∙_}
-use Prim.Native.Nat.{ℕ, _%_, _<_}
-use mathlib.Core.Bool.{Bool, true, false, cond}
-use mathlib.Core.List.{List}
+use mathlib.Core.Path.{ap, _∙_}
+use Prim.Native.Nat.{ℕ}
+use mathlib.Core.Bool.{Bool, cond}
 use Rattle.host.specs.Host.{packedOf}
 use Rattle.host.proofs.no_call.Statement.{statement}
 use Rattle.host.proofs.no_call.Tie as tie

@@ -1,8 +1,6 @@
 -- `host::put` meets its contract.
 use borrow.Author.Needs.{needs}
-use mathlib.Core.Path.{_≡_, refl, ap, sym, _∙_}
-use Prim.Native.Nat.{ℕ, _+_, _*_, _%_, _^_, _<_, _≤_}
-use mathlib.Core.List.{List, []}
+use mathlib.Core.Path.{sym}
 use lib.Seq.{set-out}
 use Rattle.host.proofs.put.Statement.{statement}
 use Rattle.host.proofs.put.Tie as tie

@@ -1,9 +1,7 @@
 -- `host::replay_one` meets its contract.
 use borrow.Author.Needs.{needs}
-use mathlib.Core.Path.{_≡_, refl, ap, sym, _∙_}
-use Prim.Native.Nat.{ℕ, _%_, _<_}
-use mathlib.Core.Bool.{Bool, true, false, cond}
-use mathlib.Core.List.{List}
+use mathlib.Core.Path.{_≡_, ap, _∙_}
+use mathlib.Core.Bool.{cond}
 use lib.ListN.{length}
 use Rattle.bank.specs.declared.Bank.{Bank}
 use Rattle.bank.specs.Formed.{wellFormed}

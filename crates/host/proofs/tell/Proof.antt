@@ -1,8 +1,8 @@
 -- `host::tell` meets its contract.
 use borrow.Author.Needs.{needs}
-use mathlib.Core.Path.{_≡_, refl, ap, sym, _∙_}
-use Prim.Native.Nat.{ℕ, _+_, _*_, _%_, _^_, _<_, _≤_}
-use mathlib.Core.List.{List, []}
+use mathlib.Core.Path.{refl, ap, _∙_}
+use Prim.Native.Nat.{ℕ}
+use mathlib.Core.List.{List}
 use lib.ListN.{set}
 use Rattle.host.proofs.tell.Statement.{statement}
 use Rattle.host.proofs.tell.Tie as tie

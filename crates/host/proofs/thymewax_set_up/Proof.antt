@@ -1,10 +1,6 @@
 -- `host::thymewax_set_up` meets its contract.
 use borrow.Author.Needs.{needs}
-use mathlib.Core.Path.{_≡_, refl, ap, sym, _∙_}
-use Prim.Native.Nat.{ℕ, _+_, _*_, _%_, _^_, _<_, _≤_}
-use mathlib.Core.Bool.{Bool, true, false, cond}
-use mathlib.Core.List.{List, []}
-use borrow.Author.Tests.{not-true, not-false}
+use mathlib.Core.Path.{ap, sym, _∙_}
 use Rattle.bank.specs.declared.SetUp.{SetUp}
 use Rattle.image.specs.Image.{imageOf}
 use Rattle.host.specs.Host.{Fresh}

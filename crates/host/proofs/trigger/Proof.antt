@@ -1,10 +1,6 @@
 -- `host::trigger` meets its contract.
 use borrow.Author.Needs.{needs}
-use mathlib.Core.Path.{_≡_, refl, ap, sym, _∙_}
-use Prim.Native.Nat.{ℕ, _+_, _*_, _%_, _^_, _<_, _≤_}
-use mathlib.Core.Bool.{Bool, true, false, cond}
-use mathlib.Core.List.{List, []}
-use borrow.Author.Tests.{not-true, not-false}
+use mathlib.Core.Path.{ap, _∙_}
 use Rattle.model.specs.Engine.{Step}
 use Rattle.model.specs.Rings.{Controller}
 use Rattle.image.specs.Image.{imageOf}

@@ -1,6 +1,6 @@
 -- `image::is_encoded` meets its contract.
 use borrow.Author.Needs.{needs}
-use mathlib.Core.Path.{_≡_, ap, ap₂, _∙_}
+use mathlib.Core.Path.{ap, ap₂, _∙_}
 use mathlib.Core.Bool.{_&&_}
 use lib.ListN.{take}
 use Rattle.bank.specs.declared.Bank.{Bank}

@@ -1,9 +1,7 @@
 -- `image::kind_in` meets its contract.
-use borrow.Author.Needs.{needs}
-use Rattle.image.proofs.Numbers.{broadcast-in, answered-in}
+use Rattle.image.proofs.Numbers.{broadcast-in}
 use mathlib.Core.Path.{sym, ap}
 use Rattle.image.specs.Image.{kindIn}
-use Prim.Native.Nat.{ℕ}
 use Rattle.image.proofs.kind_in.Statement.{statement}
 use Rattle.image.proofs.kind_in.Tie as tie
 

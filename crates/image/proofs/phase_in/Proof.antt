@@ -1,6 +1,5 @@
 -- `image::phase_in` meets its contract.
-use borrow.Author.Needs.{needs}
-use Rattle.image.proofs.Numbers.{broadcast-in, answered-in}
+use Rattle.image.proofs.Numbers.{answered-in}
 use mathlib.Core.Path.{sym, ap}
 use Rattle.image.specs.Image.{phaseIn}
 use Prim.Native.Nat.{ℕ}

@@ -1,11 +1,10 @@
 -- `image::same_flags` meets its contract.
 use borrow.Author.Needs.{needs}
-use Prim.Native.Nat.{ℕ, _+_, _-_, _≤_, _<_}
+use Prim.Native.Nat.{_+_, _-_, _≤_, _<_}
 use native.Mathlib.Omega.{arith}
-use mathlib.Core.Path.{_≡_, refl, ap, sym, _∙_}
-use lib.ListN.{length, getD, length-set}
-use lib.ListN.{take}
-use Rattle.image.specs.Image.{same, part, stateWords}
+use mathlib.Core.Path.{_≡_, refl, sym, _∙_}
+use lib.ListN.{length, take}
+use Rattle.image.specs.Image.{same, part}
 use Rattle.image.proofs.Compared.{same-next, same-all}
 use Rattle.image.proofs.Parts.{part-length, part-word}
 use Rattle.image.proofs.same_flags.Statement.{statement}

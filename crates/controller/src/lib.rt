@@ -10,23 +10,14 @@ ghost use Prim.Native.Nat.{ℕ};
 ghost use mathlib.Core.List.{List, []};
 ghost use lib.ListN.{length};
 ghost use Rattle.answer.specs.Given.{bankWith, controller, tables, tablesOf, view, given, givenOut, decided, OpenWith};
-ghost use Rattle.controller.specs.Faults.{faultNumber, refusedOut, nextOut};
+ghost use Rattle.controller.specs.Outs.{refusedOut, nextOut};
+ghost use Rattle.faults.specs.Faults.{faultNumber};
 use answer::Next;
 use answer::Out;
 use bank::Answer;
 use bank::Bank;
 use bank::State;
 use model::Call;
-
-// 21 for a bank that is not well formed, 22 for a store of another length, else 0.
-pub fn fault(b: Bank, len: usize) -> u32
-    ensures { λ r. ⌜ r ≡ faultNumber b len ⌝ }
-{
-    let ok = formed::well_formed(b);
-    let total = bank::total_of(b.state.queues);
-    let n = bank::select(!(len == total), 22, 0);
-    bank::select(!ok, 21, n)
-}
 
 // A refusal: the bank as it was, value 0.
 fn refuse(b: Bank, n: u32) -> Out
@@ -75,7 +66,7 @@ fn with_tables(y: Next, flags: [u8; 128], commands: [u32; 16], payloads: [u32; 1
 pub fn read(b: Bank, store: &[u32], offset: u16) -> Out
     ensures { λ y. ⌜ ((o : List ℕ) → givenOut y (now (store .entry)) o ≡ step rings (controller b (now (store .entry)) o) (Read offset)) ⌝ }
 {
-    let n = fault(b, store.len());
+    let n = faults::fault(b, store.len());
     if n != 0 {
         return refuse(b, n);
     }
@@ -90,7 +81,7 @@ pub fn read(b: Bank, store: &[u32], offset: u16) -> Out
 pub fn write(b: Bank, store: &mut [u32], offset: u16, v: u32) -> Out
     ensures { λ y. ⌜ ((o : List ℕ) → givenOut y (now (store .exit)) o ≡ step rings (controller b (now (store .entry)) o) (Write offset v)) ⌝ }
 {
-    let n = fault(b, store.len());
+    let n = faults::fault(b, store.len());
     if n != 0 {
         return refuse(b, n);
     }
@@ -105,7 +96,7 @@ pub fn write(b: Bank, store: &mut [u32], offset: u16, v: u32) -> Out
 pub fn start(b: Bank, store: &[u32], output: &[u32]) -> Out
     ensures { λ y. ⌜ givenOut y (now (store .entry)) (now (output .entry)) ≡ step rings (controller b (now (store .entry)) (now (output .entry))) Start ⌝ }
 {
-    let n = fault(b, store.len());
+    let n = faults::fault(b, store.len());
     if n != 0 {
         return refuse(b, n);
     }
@@ -119,7 +110,7 @@ pub fn start(b: Bank, store: &[u32], output: &[u32]) -> Out
 pub fn send(b: Bank, store: &[u32], output: &[u32]) -> Out
     ensures { λ y. ⌜ givenOut y (now (store .entry)) (now (output .entry)) ≡ step rings (controller b (now (store .entry)) (now (output .entry))) Send ⌝ }
 {
-    let n = fault(b, store.len());
+    let n = faults::fault(b, store.len());
     if n != 0 {
         return refuse(b, n);
     }
@@ -133,7 +124,7 @@ pub fn send(b: Bank, store: &[u32], output: &[u32]) -> Out
 pub fn receive(b: Bank, store: &mut [u32], output: &[u32], byte: u8) -> Out
     ensures { λ y. ⌜ givenOut y (now (store .exit)) (now (output .entry)) ≡ step rings (controller b (now (store .entry)) (now (output .entry))) (Receive byte) ⌝ }
 {
-    let n = fault(b, store.len());
+    let n = faults::fault(b, store.len());
     if n != 0 {
         return refuse(b, n);
     }
@@ -146,7 +137,7 @@ pub fn receive(b: Bank, store: &mut [u32], output: &[u32], byte: u8) -> Out
 pub fn finish(b: Bank, store: &mut [u32], output: &mut [u32], code: u8) -> Out
     ensures { λ y. ⌜ givenOut y (now (store .exit)) (now (output .exit)) ≡ step rings (controller b (now (store .entry)) (now (output .entry))) (Finish code) ⌝ }
 {
-    let n = fault(b, store.len());
+    let n = faults::fault(b, store.len());
     if n != 0 {
         return refuse(b, n);
     }
@@ -160,7 +151,7 @@ pub fn finish(b: Bank, store: &mut [u32], output: &mut [u32], code: u8) -> Out
 pub fn interrupt(b: Bank, store: &mut [u32], output: &[u32], address: u8, byte: u8) -> Out
     ensures { λ y. ⌜ givenOut y (now (store .exit)) (now (output .entry)) ≡ step rings (controller b (now (store .entry)) (now (output .entry))) (Interrupt address byte) ⌝ }
 {
-    let n = fault(b, store.len());
+    let n = faults::fault(b, store.len());
     if n != 0 {
         return refuse(b, n);
     }
@@ -174,7 +165,7 @@ pub fn interrupt(b: Bank, store: &mut [u32], output: &[u32], address: u8, byte: 
 pub fn request(b: Bank, store: &mut [u32], output: &[u32], v: u32, w: u32) -> Out
     ensures { λ y. ⌜ givenOut y (now (store .exit)) (now (output .entry)) ≡ step rings (controller b (now (store .entry)) (now (output .entry))) (Request v w) ⌝ }
 {
-    let n = fault(b, store.len());
+    let n = faults::fault(b, store.len());
     if n != 0 {
         return refuse(b, n);
     }
@@ -187,7 +178,7 @@ pub fn request(b: Bank, store: &mut [u32], output: &[u32], v: u32, w: u32) -> Ou
 pub fn take_address(b: Bank, store: &[u32], output: &[u32]) -> Out
     ensures { λ y. ⌜ givenOut y (now (store .entry)) (now (output .entry)) ≡ step rings (controller b (now (store .entry)) (now (output .entry))) Take ⌝ }
 {
-    let n = fault(b, store.len());
+    let n = faults::fault(b, store.len());
     if n != 0 {
         return refuse(b, n);
     }
@@ -200,7 +191,7 @@ pub fn take_address(b: Bank, store: &[u32], output: &[u32]) -> Out
 pub fn trigger(b: Bank, store: &[u32], output: &[u32]) -> Out
     ensures { λ y. ⌜ givenOut y (now (store .entry)) (now (output .entry)) ≡ step rings (controller b (now (store .entry)) (now (output .entry))) Trigger ⌝ }
 {
-    let n = fault(b, store.len());
+    let n = faults::fault(b, store.len());
     if n != 0 {
         return refuse(b, n);
     }
@@ -270,7 +261,7 @@ pub fn step_parts(
 pub fn step(b: Bank, store: &mut [u32], output: &mut [u32], call: Call) -> Out
     ensures { λ y. ⌜ givenOut y (now (store .exit)) (now (output .exit)) ≡ step rings (controller b (now (store .entry)) (now (output .entry))) call ⌝ }
 {
-    let n = fault(b, store.len());
+    let n = faults::fault(b, store.len());
     let mut f = b.flags;
     let mut c = b.commands;
     let mut p = b.payloads;

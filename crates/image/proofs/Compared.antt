@@ -8,7 +8,7 @@ use mathlib.Core.List.{List, [], _∷_}
 use lib.Dec.{eqb}
 use lib.ListN.{length, getD, take}
 use lib.Seq.{take-all}
-use Rattle.image.specs.Image.{same}
+use Rattle.image_model.specs.Image.{same}
 
 and-true : (a : Bool) → (a && true) ≡ a
 and-true true = refl

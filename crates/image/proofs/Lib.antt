@@ -1,8 +1,1 @@
-pub mod Fill
 pub mod Compared
-pub mod Numbers
-pub mod Parts
-pub mod Words
-pub mod Encoded
-pub mod Back
-pub mod Laws

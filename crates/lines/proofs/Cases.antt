@@ -2,8 +2,8 @@
 use mathlib.Core.Path.{_≡_, refl}
 use mathlib.Core.List.{[], _∷_, map}
 use Rattle.model.specs.declared.Call.the-variants.{Read, Write, Start, Send, Receive, Finish, Interrupt, Request, Take}
-use Rattle.lines.specs.declared.Parsed.the-variants.{Named, Skipped}
-use Rattle.lines.specs.Forms.{forms, find}
+use Rattle.letters.specs.declared.Parsed.the-variants.{Named, Skipped}
+use Rattle.letters.specs.Forms.{forms, find}
 use Rattle.lines.specs.Lines.{parsedOf}
 
 -- `W 0040 00000000`, `W 0180 00001102`, `W 00dc a5c30000`, `W 00d4 00000210`, `S`, `T`, `F 0`, `R 00d8`, `X fF`, `I 8 5A`, `D FFFFffff 1`, `A`, `W 4 0`

@@ -10,8 +10,8 @@ use lib.ListN.{length}
 use borrow.Author.Tests.{le-ltb, ne-eqb}
 use Rattle.model.specs.declared.Call.the-variants.{Read, Write, Receive, Finish, Interrupt, Request}
 use Rattle.lines.specs.declared.Reading.{Reading}
-use Rattle.lines.specs.declared.Parsed.the-variants.{Named}
-use Rattle.lines.specs.Forms.{forms, find}
+use Rattle.letters.specs.declared.Parsed.the-variants.{Named}
+use Rattle.letters.specs.Forms.{forms, find}
 use Rattle.lines.specs.Lines.{reading, hexOf, eatOf, callOf, parsedOf}
 
 -- ── Digits ────────────────────────────────────────────────────────────────────────────────────────────────────

@@ -1,9 +1,6 @@
 pub mod Choices
-pub mod Letters
 pub mod Digits
 pub mod Cases
 pub mod Fields
 pub mod Shapes
-pub mod Output
-pub mod Cutting
-pub mod Worked
+pub mod Bytes

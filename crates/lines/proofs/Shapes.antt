@@ -11,9 +11,9 @@ use lib.ListN.{length}
 use borrow.Author.Tests.{ltb-false, eqb-true, eqb-false}
 use Rattle.model.specs.declared.Call.{Call}
 use Rattle.lines.specs.declared.Reading.{Reading}
-use Rattle.lines.specs.declared.Parsed.{Parsed}
-use Rattle.lines.specs.declared.Parsed.the-variants.{Named, Skipped}
-use Rattle.lines.specs.Forms.{Form, forms, find, formOf}
+use Rattle.letters.specs.declared.Parsed.{Parsed}
+use Rattle.letters.specs.declared.Parsed.the-variants.{Named, Skipped}
+use Rattle.letters.specs.Forms.{Form, forms, find, formOf}
 use Rattle.lines.specs.Lines.{reading, skipped, hexOf, eatOf, callOf, parsedOf}
 use Rattle.lines.proofs.Choices.{chosen, passed, split}
 use Rattle.lines.proofs.Fields.{Hexes, Field}

@@ -6,9 +6,10 @@ use mathlib.Core.Option.{Option, none, some}
 use lib.Dec.{eqb, ltb, leb}
 use lib.ListN.{getD}
 use Rattle.lines.specs.declared.Reading.{Reading}
-use Rattle.lines.specs.declared.Parsed.{Parsed}
-use Rattle.lines.specs.declared.Parsed.the-variants.{Named, Skipped}
-use Rattle.lines.specs.Forms.{Form, formOf}
+use Rattle.letters.specs.declared.Parsed.{Parsed}
+use Rattle.letters.specs.declared.Parsed.the-variants.{Skipped}
+use Rattle.letters.specs.Forms.{Form, formOf}
+use Rattle.letters.specs.Named.{namedBy}
 
 abbrev pub reading : ℕ → ℕ → ℕ → ℕ → Bool → ℕ → ℕ → Reading
 reading letter room next last bare first value =
@@ -51,10 +52,6 @@ eatOf r b = cond (eqb (r .letter) 0) (opened (formOf b)) (cond (eqb b 0x20) (spa
 
 abbrev pub readingOf : List ℕ → Reading
 readingOf = foldl eatOf fresh
-
-abbrev pub namedBy : Option Form → ℕ → ℕ → Parsed
-namedBy none v w = Skipped
-namedBy (some f) v w = Named (f .call v w)
 
 -- the call of a line that ends here: every field is there, with a digit at least; "other lines are skipped"
 abbrev pub callOf : Reading → Parsed

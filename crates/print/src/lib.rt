@@ -1,6 +1,8 @@
 // An answer as text, one line of twelve bytes.
 ghost use mathlib.Core.Path.{_≡_};
-ghost use Prim.Native.Nat.{_/_, _%_, _<_, _≤_};
+ghost use mathlib.Core.List.{_++_};
+ghost use Prim.Native.Nat.{_+_, _/_, _%_, _<_, _≤_};
+ghost use lib.ListN.{length, take};
 ghost use Rattle.print.specs.Line.{glyph, lineOf};
 use bank::Answer;
 
@@ -36,4 +38,14 @@ pub fn line(a: Answer) -> [u8; 12]
         digit(n, 10, 1),
         b'\n',
     ]
+}
+
+// The bytes of a line, into the text from a place on: a layer, no interface.
+pub fn put(out: &mut [u8], at: usize, text: [u8; 12])
+    requires { ⌜ at + 12 ≤ length (now out) ⌝ }
+    ensures { λ _. ⌜ take (at + 12) (now (out .exit)) ≡ take at (now (out .entry)) ++ text ⌝ }
+{
+    for k in 0..12 {
+        out[at + k] = text[k];
+    }
 }

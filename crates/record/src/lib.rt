@@ -3,56 +3,51 @@ ghost use mathlib.Core.Path.{_≡_};
 ghost use mathlib.Core.Bool.{cond};
 ghost use Prim.Native.Nat.{_+_, _*_, _<_, _≤_};
 ghost use lib.ListN.{length};
-ghost use Rattle.lines.specs.declared.Parsed.the-variants.{Skipped};
-ghost use Rattle.lines.specs.Forms.{formOf};
-ghost use Rattle.record.specs.Record.{rec, namedIn, recordAt, within};
-ghost use Rattle.record.specs.Writer.{recordBytes};
-use lines::Parsed;
+ghost use Rattle.letters.specs.declared.Parsed.the-variants.{Named, Skipped};
+ghost use Rattle.letters.specs.Forms.{formOf};
+ghost use Rattle.record_model.specs.Record.{rec, namedIn, recordAt, within};
+ghost use Rattle.record_model.specs.Writer.{recordBytes};
+use letters::Parsed;
+use model::Call;
 
 // What a record names if it is right.
-fn when(right: bool, p: Parsed) -> Parsed
-    ensures { λ r. ⌜ r ≡ cond right p Skipped ⌝ }
+fn when(right: bool, c: Call) -> Parsed
+    ensures { λ r. ⌜ r ≡ cond right (Named c) Skipped ⌝ }
 {
     if right {
-        return p;
+        return Parsed::Named(c);
     }
     Parsed::Skipped
 }
 
-// The call of a record, by its fields.
+// The call of a record, by its fields. No right record has a field that a remainder cuts.
 fn named(letter: u8, zero: u8, offset: u32, v: u32, w: u32) -> Parsed
     requires { ⌜ offset < 65536 ⌝ }
     ensures { λ p. ⌜ p ≡ namedIn (formOf letter) (rec letter zero offset v w) ⌝ }
 {
     let z = zero == 0;
     match letter {
-        b'W' => when(z & (w == 0), lines::call(b'W', offset, v)),
-        b'R' => when(z & ((v == 0) & (w == 0)), lines::call(b'R', 0, offset)),
-        b'S' => when(
-            z & ((offset == 0) & ((v == 0) & (w == 0))),
-            lines::call(b'S', 0, 0),
+        b'W' => when(z & (w == 0), Call::Write((offset % 65536) as u16, v)),
+        b'R' => when(
+            z & ((v == 0) & (w == 0)),
+            Call::Read((offset % 65536) as u16),
         ),
-        b'T' => when(
-            z & ((offset == 0) & ((v == 0) & (w == 0))),
-            lines::call(b'T', 0, 0),
-        ),
+        b'S' => when(z & ((offset == 0) & ((v == 0) & (w == 0))), Call::Start),
+        b'T' => when(z & ((offset == 0) & ((v == 0) & (w == 0))), Call::Send),
         b'X' => when(
             z & ((offset == 0) & ((v < 256) & (w == 0))),
-            lines::call(b'X', 0, v),
+            Call::Receive((v % 256) as u8),
         ),
         b'F' => when(
             z & ((offset == 0) & ((v < 256) & (w == 0))),
-            lines::call(b'F', 0, v),
+            Call::Finish((v % 256) as u8),
         ),
         b'I' => when(
             z & ((offset == 0) & ((v < 256) & (w < 256))),
-            lines::call(b'I', v, w),
+            Call::Interrupt((v % 256) as u8, (w % 256) as u8),
         ),
-        b'D' => when(z & (offset == 0), lines::call(b'D', v, w)),
-        b'A' => when(
-            z & ((offset == 0) & ((v == 0) & (w == 0))),
-            lines::call(b'A', 0, 0),
-        ),
+        b'D' => when(z & (offset == 0), Call::Request(v, w)),
+        b'A' => when(z & ((offset == 0) & ((v == 0) & (w == 0))), Call::Take),
         _ => Parsed::Skipped,
     }
 }
@@ -65,9 +60,9 @@ pub fn at(records: &[u8], i: usize) -> Parsed
     let start = 12 * i;
     let letter = records[start];
     let zero = records[start + 1];
-    let offset = trace::two_at(records, start + 2);
-    let v = trace::four_at(records, start + 4);
-    let w = trace::four_at(records, start + 8);
+    let offset = little_endian::two_at(records, start + 2);
+    let v = little_endian::four_at(records, start + 4);
+    let w = little_endian::four_at(records, start + 8);
     named(letter, zero, offset, v, w)
 }
 

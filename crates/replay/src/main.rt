@@ -4,7 +4,7 @@ ghost use mathlib.Core.Path.{_≡_};
 ghost use Prim.Native.Nat.{_≤_, _<_};
 ghost use lib.ListN.{length};
 use bank::Bank;
-use stream::Stage;
+use stream_model::Stage;
 
 // The bank, what is to come, and how many bytes at the front of the buffer were not used; whether there may be more to
 // read; whether all output was written.
@@ -53,14 +53,14 @@ fn turn(
     let ok = io::write_all(1, &out[..count]);
     let used = f.used;
     let rest = have - used;
-    stream::shift(buf, used, rest);
+    buffer::shift(buf, used, rest);
     let next = f.bank;
     let to_come = f.stage;
     Went {
         bank: next,
         stage: to_come,
         held: rest,
-        more: ok & !stream::over(to_come),
+        more: ok & !stream_end::over(to_come),
         written: ok,
     }
 }
@@ -69,7 +69,7 @@ fn turn(
 fn end(stage: Stage, held: usize, out: &mut [u8])
     requires { ⌜ 12 ≤ length (now out) ⌝ }
 {
-    let m = stream::end(stage, held, out);
+    let m = stream_end::end(stage, held, out);
     io::write_all(1, &out[..m]);
 }
 

@@ -29,7 +29,7 @@ fn turn(b: Bank, line: Reading, store: &mut [u32], out: &mut [u8]) -> Went
     }
     let n = io::count(got, &piece);
     let mut none = [0u32; 0];
-    let f = lines::feed(b, store, &mut none, line, &piece[..n], out);
+    let f = sessions::feed(b, store, &mut none, line, &piece[..n], out);
     let m = f.count;
     let ok = io::write_all(1, &out[..m]);
     let next = f.bank;
@@ -47,7 +47,7 @@ fn end(b: Bank, line: Reading, store: &mut [u32], out: &mut [u8])
     requires { ⌜ 12 ≤ length (now out) ⌝ }
 {
     let mut none = [0u32; 0];
-    let e = lines::end_line(b, store, &mut none, line, out, 0);
+    let e = sessions::end_line(b, store, &mut none, line, out, 0);
     let m = e.count;
     io::write_all(1, &out[..m]);
 }

@@ -7,7 +7,7 @@ ghost use Rattle.answer.specs.Given.{controller, givenOut};
 use answer::Out;
 use bank::Answer;
 use bank::Bank;
-use lines::Parsed;
+use letters::Parsed;
 use model::Call;
 
 // A call in place on a bank in a local. Whoever calls this needs no walk.

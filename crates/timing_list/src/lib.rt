@@ -6,10 +6,11 @@ ghost use mathlib.Core.List.{[]};
 ghost use Prim.Native.Nat.{_%_, _^_};
 ghost use lib.ListN.{length};
 ghost use Rattle.answer.specs.Given.{controller};
-ghost use Rattle.playback.specs.Replay.{replayOf, replayedOut};
+ghost use Rattle.playback_model.specs.Replay.{replayOf};
+ghost use Rattle.replayed.specs.Given.{replayedOut};
 ghost use Rattle.timing.specs.Timing.{freshOf, keptIn};
 use bank::Bank;
-use playback::Replayed;
+use replayed::Replayed;
 
 // The section in place on a bank in a local. Whoever calls this needs no walk.
 fn replay_once(b: Bank, store: &mut [u32], file: &[u8], i: u32, limit: usize) -> Replayed

@@ -171,13 +171,13 @@ fn call_on(
     line: Reading,
     out: &mut [u8],
     at: usize,
-) -> lines::Ended
+) -> sessions::Ended
     requires { ⌜ at + 12 ≤ length (now out) ⌝ }
     ensures { λ r. ⌜ r .count ≤ at + 12 ⌝ }
 {
     let n = lent(b, store.len());
     let m = within(words, output.len());
-    lines::end_line(b, &mut store[..n], &mut output[..m], line, out, at)
+    sessions::end_line(b, &mut store[..n], &mut output[..m], line, out, at)
 }
 
 // A line of 01 ends.

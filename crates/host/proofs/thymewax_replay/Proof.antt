@@ -6,9 +6,9 @@ use borrow.Author.Tests.{not-true, not-false}
 use Rattle.bank.specs.declared.Bank.{Bank}
 use Rattle.bank.specs.Formed.{wellFormed}
 use Rattle.answer.specs.Given.{controller}
-use Rattle.playback.specs.Replay.{replayOf}
-use Rattle.host.specs.Host.{Replayed, leftBy, toldIn}
-use Rattle.host.proofs.Hosting.{wrong-size, not-encoded, formed-image, no-replay, one-replay}
+use Rattle.playback_model.specs.Replay.{replayOf}
+use Rattle.host_model.specs.Host.{Replayed, leftBy, toldIn}
+use Rattle.host_model.proofs.Hosting.{wrong-size, not-encoded, formed-image, no-replay, one-replay}
 use Rattle.host.proofs.thymewax_replay.Statement.{statement}
 use Rattle.host.proofs.thymewax_replay.Tie as tie
 

@@ -15,12 +15,12 @@ use Rattle.model.specs.declared.Call.the-variants.{Trigger}
 use Rattle.model.specs.Engine.{step}
 use Rattle.model.specs.Rings.{rings}
 use Rattle.answer.specs.Given.{controller}
-use Rattle.lines.specs.declared.Parsed.{Parsed}
-use Rattle.record.specs.Record.{rec, recordAt}
-use Rattle.record.specs.Writer.{recordBytes}
-use Rattle.host.specs.Host.{Hosted, hosted, callOf, stepIn, packedOf}
-use Rattle.host.proofs.Calling.{triggered, recorded, unfit, written}
-use Rattle.host.proofs.Hosting.{wrong-size, not-encoded, no-image, no-call, one-call}
+use Rattle.letters.specs.declared.Parsed.{Parsed}
+use Rattle.record_model.specs.Record.{rec, recordAt}
+use Rattle.record_model.specs.Writer.{recordBytes}
+use Rattle.host_model.specs.Host.{Hosted, hosted, callOf, stepIn, packedOf}
+use Rattle.host_model.proofs.Calling.{triggered, recorded, unfit, written}
+use Rattle.host_model.proofs.Hosting.{wrong-size, not-encoded, no-image, no-call, one-call}
 use Rattle.host.proofs.thymewax_step.Statement.{statement}
 use Rattle.host.proofs.thymewax_step.Tie as tie
 

@@ -1,6 +1,6 @@
 -- `image::decode` meets its contract.
 use borrow.Author.Needs.{needs}
-use Rattle.image.specs.Image.{bankIn}
+use Rattle.image_model.specs.Image.{bankIn}
 use Rattle.image.proofs.decode.Statement.{statement}
 use Rattle.image.proofs.decode.Tie as tie
 

@@ -4,8 +4,8 @@ use mathlib.Core.Path.{ap, ap₂, _∙_}
 use mathlib.Core.Bool.{_&&_}
 use lib.ListN.{take}
 use Rattle.bank.specs.declared.Bank.{Bank}
-use Rattle.image.specs.Image.{same, stateWords, part, bankIn}
-use Rattle.image.proofs.Encoded.{encoded-parts}
+use Rattle.image_model.specs.Image.{same, stateWords, part, bankIn}
+use Rattle.image_model.proofs.Encoded.{encoded-parts}
 use Rattle.image.proofs.is_encoded.Statement.{statement}
 use Rattle.image.proofs.is_encoded.Tie as tie
 

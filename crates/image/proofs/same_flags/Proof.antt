@@ -4,9 +4,9 @@ use Prim.Native.Nat.{_+_, _-_, _≤_, _<_}
 use native.Mathlib.Omega.{arith}
 use mathlib.Core.Path.{_≡_, refl, sym, _∙_}
 use lib.ListN.{length, take}
-use Rattle.image.specs.Image.{same, part}
+use Rattle.image_model.specs.Image.{same, part}
 use Rattle.image.proofs.Compared.{same-next, same-all}
-use Rattle.image.proofs.Parts.{part-length, part-word}
+use Rattle.image_model.proofs.Parts.{part-length, part-word}
 use Rattle.image.proofs.same_flags.Statement.{statement}
 use Rattle.image.proofs.same_flags.Tie as tie
 

@@ -4,7 +4,7 @@ use Prim.Native.Nat.{ℕ, _-_, _≤_, _<_}
 use native.Mathlib.Omega.{arith}
 use mathlib.Core.Path.{_≡_, refl, ap, sym, _∙_}
 use lib.ListN.{length, take}
-use Rattle.image.specs.Image.{same}
+use Rattle.image_model.specs.Image.{same}
 use Rattle.image.proofs.Compared.{same-next, same-all}
 use lib.Seq.{length-take-le, getD-take}
 use mathlib.Core.List.{List}

@@ -1,7 +1,7 @@
 -- `lines::letter` meets its contract.
-use Rattle.lines.proofs.Letters.{absent}
+use Rattle.letters.proofs.Letters.{absent}
 use Rattle.lines.specs.Lines.{opened}
-use Rattle.lines.specs.Forms.{forms, find, formOf}
+use Rattle.letters.specs.Forms.{forms, find, formOf}
 use mathlib.Core.Path.{sym, ap, _∙_}
 use Prim.Native.Nat.{ℕ}
 use borrow.Author.Needs.{needs}

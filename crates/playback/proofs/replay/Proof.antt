@@ -4,9 +4,9 @@ use mathlib.Core.Path.{ap, sym, _∙_}
 use mathlib.Core.List.{List, []}
 use Prim.Native.Nat.{ℕ}
 use Rattle.answer.specs.Given.{controller}
-use Rattle.record.proofs.Kept.{empty}
-use Rattle.playback.specs.Replay.{replayedWith}
-use Rattle.playback.proofs.Laws.{refuses, plays}
+use Rattle.record_model.proofs.Kept.{empty}
+use Rattle.playback_model.proofs.Laws.{refuses, plays}
+use Rattle.replayed.specs.Given.{replayedWith}
 use Rattle.playback.proofs.replay.Statement.{statement}
 use Rattle.playback.proofs.replay.Tie as tie
 

@@ -4,8 +4,8 @@ use native.Mathlib.Omega.{arith}
 use mathlib.Core.Path.{ap, sym, _∙_}
 use mathlib.Core.List.{[]}
 use Rattle.answer.specs.Given.{controller}
-use Rattle.stream.specs.declared.Stage.{Stage}
-use Rattle.stream.specs.Stream.{fed}
+use Rattle.stream_model.specs.declared.Stage.{Stage}
+use Rattle.stream_model.specs.Stream.{fed}
 use Rattle.stream.proofs.feed.Statement.{statement}
 use Rattle.stream.proofs.feed.Tie as tie
 

@@ -7,8 +7,8 @@ use mathlib.Core.List.{List, []}
 use lib.ListN.{length, take, drop, length-drop}
 use lib.Seq.{take-all}
 use Rattle.answer.specs.Given.{controller}
-use Rattle.trace.proofs.Heads.{more-short, right-within}
-use Rattle.stream.specs.Stream.{Stream, stream, recordsOf, openedBy}
+use Rattle.trace_model.proofs.Heads.{more-short, right-within}
+use Rattle.stream_model.specs.Stream.{Stream, stream, recordsOf, openedBy}
 use Rattle.stream.proofs.open.Statement.{statement}
 use Rattle.stream.proofs.open.Tie as tie
 

@@ -5,7 +5,7 @@ use mathlib.Core.List.{[]}
 use lib.ListN.{length}
 use Rattle.bank.specs.declared.Bank.{Bank}
 use Rattle.answer.specs.Given.{controller}
-use Rattle.playback.specs.Replay.{Replay, replayOf}
+use Rattle.playback_model.specs.Replay.{Replay, replayOf}
 use Rattle.timing.specs.Timing.{keptIn}
 use borrow.Author.Needs.{needs}
 use Rattle.timing_list.proofs.replay_trace.Statement.{statement}

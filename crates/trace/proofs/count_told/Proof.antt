@@ -2,7 +2,7 @@
 use borrow.Author.Needs.{needs}
 use native.Mathlib.Omega.{arith}
 use mathlib.Core.Path.{_∙_}
-use Rattle.trace.proofs.Heads.{too-few, too-many, table-short, table-whole}
+use Rattle.trace_model.proofs.Heads.{too-few, too-many, table-short, table-whole}
 use Rattle.trace.proofs.count_told.Statement.{statement}
 use Rattle.trace.proofs.count_told.Tie as tie
 

@@ -2,8 +2,8 @@
 use borrow.Author.Needs.{needs}
 use mathlib.Core.Path.{refl, sym, _∙_}
 use borrow.Author.Tests.{ne-eqb, eq-eqb, lt-ltb, le-ltb}
-use Rattle.trace.specs.Format.{lookNumber}
-use Rattle.trace.proofs.Table.{sound}
+use Rattle.trace_model.specs.Format.{lookNumber}
+use Rattle.trace_model.proofs.Table.{sound}
 use Rattle.trace.proofs.look_up.Statement.{statement}
 use Rattle.trace.proofs.look_up.Tie as tie
 

@@ -1,7 +1,7 @@
 -- `trace::read_head` meets its contract.
 use borrow.Author.Needs.{needs}
 use mathlib.Core.Path.{_∙_}
-use Rattle.trace.proofs.Heads.{mark-cut, mark-wrong, count-cut, count-there}
+use Rattle.trace_model.proofs.Heads.{mark-cut, mark-wrong, count-cut, count-there}
 use Rattle.trace.proofs.read_head.Statement.{statement}
 use Rattle.trace.proofs.read_head.Tie as tie
 

@@ -2,7 +2,7 @@
 use borrow.Author.Needs.{needs}
 use Prim.Native.Nat.{ℕ, _+_}
 use mathlib.Core.Path.{refl, ap, sym, _∙_}
-use Rattle.trace.proofs.Sections.{refused, entry, handed-part}
+use Rattle.trace_model.proofs.Sections.{refused, entry, handed-part}
 use Rattle.trace.proofs.section.Statement.{statement}
 use Rattle.trace.proofs.section.Tie as tie
 

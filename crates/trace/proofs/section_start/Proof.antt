@@ -1,8 +1,8 @@
 -- `trace::section_start` meets its contract.
 use borrow.Author.Needs.{needs}
 use mathlib.Core.Path.{sym, _∙_}
-use Rattle.trace.specs.Format.{sectionStart}
-use Rattle.trace.proofs.Sections.{refused, entry}
+use Rattle.trace_model.specs.Format.{sectionStart}
+use Rattle.trace_model.proofs.Sections.{refused, entry}
 use Rattle.trace.proofs.section_start.Statement.{statement}
 use Rattle.trace.proofs.section_start.Tie as tie
 

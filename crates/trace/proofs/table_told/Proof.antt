@@ -1,7 +1,7 @@
 -- `trace::table_told` meets its contract.
 use borrow.Author.Needs.{needs}
 use mathlib.Core.Path.{refl}
-use Rattle.trace.proofs.Heads.{starts-wrong, too-large, table-right}
+use Rattle.trace_model.proofs.Heads.{starts-wrong, too-large, table-right}
 use Rattle.trace.proofs.table_told.Statement.{statement}
 use Rattle.trace.proofs.table_told.Tie as tie
 

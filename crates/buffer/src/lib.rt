@@ -1,0 +1,14 @@
+// A buffer that is read in pieces.
+ghost use mathlib.Core.Path.{_≡_};
+ghost use Prim.Native.Nat.{_+_, _≤_};
+ghost use lib.ListN.{length, take, drop};
+
+// The bytes that a piece did not use, moved to the front; those behind them are left free. A layer, no interface.
+pub fn shift(buf: &mut [u8], used: usize, held: usize)
+    requires { ⌜ used + held ≤ length (now buf) ⌝ }
+    ensures { λ _. ⌜ take held (now (buf .exit)) ≡ take held (drop used (now (buf .entry))) ⌝ }
+{
+    for k in 0..held {
+        buf[k] = buf[used + k];
+    }
+}

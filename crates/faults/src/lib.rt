@@ -1,0 +1,14 @@
+// The two tests before every call: a well-formed bank, and a store of its length.
+ghost use mathlib.Core.Path.{_≡_};
+ghost use Rattle.faults.specs.Faults.{faultNumber};
+use bank::Bank;
+
+// 21 for a bank that is not well formed, 22 for a store of another length, else 0.
+pub fn fault(b: Bank, len: usize) -> u32
+    ensures { λ r. ⌜ r ≡ faultNumber b len ⌝ }
+{
+    let ok = formed::well_formed(b);
+    let total = bank::total_of(b.state.queues);
+    let n = bank::select(!(len == total), 22, 0);
+    bank::select(!ok, 21, n)
+}

@@ -1,0 +1,45 @@
+// Whether what an open burst stands for fits its commands: its mode, its place and the transfer of its command.
+ghost use mathlib.Core.Path.{_≡_};
+ghost use lib.ListN.{getD};
+ghost use Rattle.bank.specs.Bursts.{place};
+ghost use Rattle.bank.specs.Formed.{burstOk};
+use bank::Control;
+use bank::Phase;
+use bank::Regs;
+use bank::bursts;
+use bank::phases;
+
+// The place of the command that a burst stands at.
+fn place_of(c: Control) -> usize
+    ensures { λ k. ⌜ k ≡ place c ⌝ }
+{
+    if c.burst == 0 {
+        return 0;
+    }
+    (c.burst - 1) as usize
+}
+
+// A word of the offload commands, or 0 past their end.
+fn word_at(words: &[u32], k: usize) -> u32
+    ensures { λ w. ⌜ w ≡ getD (now (words .entry)) k 0 ⌝ }
+{
+    if k < words.len() {
+        return words[k];
+    }
+    0
+}
+
+pub fn burst_ok(c: Control, g: Regs, p: Phase, commands: &[u32; 16]) -> bool
+    ensures { λ b. ⌜ b ≡ burstOk c g p (now (commands .entry)) ⌝ }
+{
+    let span = bursts::span_of(g);
+    let at = c.burst as usize;
+    let k = place_of(c);
+    let w = word_at(commands, k);
+    let t = phases::transfer_of(p);
+    bursts::is_offload(g)
+        & bursts::all_carried(commands, span)
+        & (at <= span)
+        & bursts::is_open(w, p)
+        & formed_transfer::transfer_ok(t, phases::limit_of(p), bursts::gathered_bytes(p))
+}

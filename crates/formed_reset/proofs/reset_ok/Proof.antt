@@ -1,0 +1,22 @@
+-- `formed_reset::reset_ok` meets its contract.
+use Rattle.bank.specs.Formed.{resetOk}
+use borrow.Author.Needs.{needs}
+use Rattle.formed_reset.proofs.reset_ok.Statement.{statement}
+use Rattle.formed_reset.proofs.reset_ok.Tie as tie
+
+queues-clear-requires : tie.Need-queues-clear-requires
+queues-clear-requires c κs = search needs
+
+control-clear-requires : tie.Need-control-clear-requires
+control-clear-requires c κs = search needs
+
+stage-of-requires : tie.Need-stage-of-requires
+stage-of-requires c κs = search needs
+
+returns : tie.Need-returns
+unfolding resetOk
+returns c = cc
+
+pub reset-ok-spec : {M : Type 1} → statement M
+reset-ok-spec =
+    tie.close (tie.spec queues-clear-requires control-clear-requires stage-of-requires returns)

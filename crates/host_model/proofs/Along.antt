@@ -1,0 +1,53 @@
+-- Along a list of calls a host has what the model has: a bank that a call left stays in its types and well formed, so it comes back out of its image.
+use Prim.Native.Nat.{ℕ}
+use mathlib.Core.Path.{_≡_, refl, ap, sym, subst, _∙_}
+use mathlib.Core.Bool.{true}
+use mathlib.Core.List.{List, [], _∷_}
+use lib.Dec.{leb}
+use Rattle.bank.specs.declared.Bank.{Bank}
+use Rattle.bank.specs.SetUp.{sizesOk, bankOf}
+use Rattle.bank.specs.Formed.{wellFormed}
+use Rattle.bank.proofs.Bools.{and-true}
+use Rattle.bank.proofs.Laws.{in-range, bank-is}
+use Rattle.model.specs.declared.Call.{Call}
+use Rattle.model.specs.Engine.{Lent, step, stepLent, final, answers}
+use Rattle.model.specs.Rings.{Controller, rings}
+use Rattle.model.specs.Laws.{StaysWellFormed, SetUpWellFormed, fresh}
+use Rattle.model.proofs.Simulation.{stays-well-formed, set-up-well-formed}
+use Rattle.answer.specs.Given.{controller}
+use Rattle.letters.specs.declared.Parsed.the-variants.{Named}
+use Rattle.image_model.specs.Image.{imageOf}
+use Rattle.image_model.specs.Laws.{EncodedIsRead}
+use Rattle.image_model.proofs.Laws.{Typed, typed-of, typed-is, encoded-is-read}
+use Rattle.host_model.specs.Host.{Fresh, Hosted, hosted, stepIn}
+use Rattle.host_model.specs.Along.{Ran, ran, hostRan, modelRan, HostedAlong, HostedFromSetUp}
+use Rattle.host_model.proofs.Hosting.{set-up-done}
+use Rattle.host_model.proofs.Types.{step-typed}
+
+-- one call on the image of a bank
+on-image : (b : Bank) (st o : List ℕ) (c : Call) → Typed b → wellFormed b ≡ true → stepIn (Named c) (imageOf b) st o ≡ hosted (step rings (controller b st o) c)
+unfolding stepIn EncodedIsRead
+on-image b st o c t w =
+    let k = encoded-is-read b (typed-is b t) w in
+    rw (k .0) (ap (λ (x : Bank). hosted (step rings (controller x st o) c)) (k .1))
+
+along : (cs : List Lent) (l : Controller) → Typed (l .bank) → wellFormed (l .bank) ≡ true → hostRan (imageOf (l .bank)) (l .store) cs ≡ modelRan l cs
+unfolding hostRan final answers StaysWellFormed
+along [] l t w = refl
+along (c ∷ cs) l t w =
+    let m = rings .lend (c .output) l in
+    let s = stepLent rings l c in
+    ap (λ (h : Hosted). let r = hostRan (h .image) (h .store) cs in ran (h .answer ∷ r .answers) (r .image) (r .store)) (on-image (l .bank) (l .store) (c .output) (c .call) t w)
+    ∙ ap (λ (r : Ran). ran (s .answer ∷ r .answers) (r .image) (r .store)) (along cs (s .next) (step-typed m (c .call) t) (stays-well-formed m (c .call) w))
+
+pub hosted-along : HostedAlong
+unfolding HostedAlong
+hosted-along l cs t w = along cs l (typed-of (l .bank) t) w
+
+pub hosted-from-set-up : HostedFromSetUp
+unfolding HostedFromSetUp SetUpWellFormed
+hosted-from-set-up ws caps marks id store cs n z =
+    let i = and-true (leb id 255) (sizesOk caps marks) (in-range caps marks id z) .0 in
+    let t : Typed (bankOf caps marks true id) = record { id = i; mask = refl; sync = refl; ibisync = refl; burst = refl; flags = refl; commands = refl; payloads = refl } in
+    ap (λ (f : Fresh). hostRan (f .image) store cs) (sym (set-up-done ws caps marks id n z))
+    ∙ along cs (fresh caps marks id store) (subst Typed (sym (bank-is caps marks id z)) t) (set-up-well-formed caps marks id z)

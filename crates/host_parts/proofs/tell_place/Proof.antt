@@ -1,0 +1,28 @@
+-- `host_parts::tell_place` meets its contract.
+use borrow.Author.Needs.{needs}
+use mathlib.Core.Path.{ap, _∙_}
+use Prim.Native.Nat.{ℕ, _%_, _^_}
+use mathlib.Core.List.{List}
+use lib.ListN.{set}
+use Rattle.host_parts.proofs.tell_place.Statement.{statement}
+use Rattle.host_parts.proofs.tell_place.Tie as tie
+
+put-requires : tie.Need-put-requires
+put-requires c κs = search needs
+
+cast-put : tie.Need-cast-put
+cast-put c = search needs
+
+put-requires-2 : tie.Need-put-requires-2
+put-requires-2 c κs = search needs
+
+same-length : tie.Need-same-length
+same-length c = search needs
+
+returns : tie.Need-returns
+returns c =
+    let a = c .before .before .before .before .before .before .before .before .before .args in
+    c .before .before .put2 .ensures ∙ ap (λ (ws : List ℕ). set ws 1 (a .bytes % 2 ^ 32)) (c .before .before .before .before .before .before .put .ensures)
+
+pub tell-place-spec : {M : Type 1} → statement M
+tell-place-spec = tie.close (tie.spec put-requires cast-put put-requires-2 same-length returns)

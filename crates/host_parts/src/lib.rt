@@ -1,0 +1,91 @@
+// What the calls of a host are made of, on plain numbers: an answer packed into one number, the tests of a call's
+// numbers, and what is told in lent memory.
+ghost use mathlib.Core.Path.{_≡_};
+ghost use mathlib.Core.Bool.{cond, _&&_};
+ghost use lib.Dec.{leb};
+ghost use lib.ListN.{set};
+ghost use Rattle.bank.specs.Formed.{wellFormed};
+ghost use Rattle.host_model.specs.Host.{triggers, packedOf, toldIn, placedIn};
+use bank::Answer;
+use bank::Bank;
+use playback_model::Told;
+
+// A value in the low half, its number in the high half.
+pub fn packed(a: Answer) -> u64
+    ensures { λ r. ⌜ r ≡ packedOf a ⌝ }
+{
+    a.value as u64 + 0x1_0000_0000 * (a.number as u64)
+}
+
+pub fn refused(number: u32) -> u64
+    ensures { λ r. ⌜ r ≡ packedOf (record { value = 0; number = number }) ⌝ }
+{
+    let a = Answer {
+        value: 0,
+        number: number,
+    };
+    packed(a)
+}
+
+// Numbers that name no call, on the bank that an image says.
+pub fn no_call(b: Bank) -> u64
+    ensures { λ r. ⌜ r ≡ packedOf (record { value = 0; number = cond (wellFormed b) 27 21 }) ⌝ }
+{
+    refused(bank::select(formed::well_formed(b), 27, 21))
+}
+
+// Whether numbers fit a record, and whether they are the trigger's.
+pub fn fits(letter: u32, offset: u32) -> bool
+    ensures { λ b. ⌜ b ≡ (leb letter 255 && leb offset 65535) ⌝ }
+{
+    (letter <= 255) & (offset <= 65535)
+}
+
+pub fn is_trigger(letter: u32, offset: u32, first: u32, second: u32) -> bool
+    ensures { λ b. ⌜ b ≡ triggers letter offset first second ⌝ }
+{
+    (letter == 0x47) & ((offset == 0) & ((first == 0) & (second == 0)))
+}
+
+// A word of lent memory, where it has that word.
+fn put(ws: &mut [u32], i: usize, w: u32)
+    ensures { λ _. ⌜ now (ws .exit) ≡ set (now (ws .entry)) i w ⌝ }
+{
+    if i < ws.len() {
+        ws[i] = w;
+    }
+}
+
+// What a replay tells, in lent memory; its number.
+pub fn tell(t: Told, told: &mut [u32]) -> u32
+    ensures { λ n. ⌜ (n ≡ t .number) × (now (told .exit) ≡ toldIn t (now (told .entry))) ⌝ }
+{
+    put(told, 0, (t.count % 0x1_0000_0000) as u32);
+    put(told, 1, t.answer.value);
+    put(told, 2, t.answer.number);
+    t.number
+}
+
+// A replay refused as a whole.
+pub fn untold(told: &mut [u32]) -> u32
+    ensures { λ n. ⌜ (n ≡ 21) × (now (told .exit) ≡ toldIn (record { number = 21; count = 0; answer = record { value = 0; number = 0 } }) (now (told .entry))) ⌝ }
+{
+    let a = Answer {
+        value: 0,
+        number: 0,
+    };
+    let t = Told {
+        number: 21,
+        count: 0,
+        answer: a,
+    };
+    tell(t, told)
+}
+
+// Where a section begins and how many bytes it has, in lent memory.
+pub fn tell_place(start: u32, bytes: usize, place: &mut [u32])
+    ensures { λ _. ⌜ now (place .exit) ≡ placedIn start bytes (now (place .entry)) ⌝ }
+{
+    put(place, 0, start);
+    put(place, 1, (bytes % 0x1_0000_0000) as u32);
+}

@@ -1,0 +1,160 @@
+// The parts of a bank out of the words of an image. Layers, no interface.
+ghost use mathlib.Core.Path.{_≡_};
+ghost use Prim.Native.Nat.{_+_, _≤_};
+ghost use lib.ListN.{length};
+ghost use Rattle.image_model.specs.Image.{size, ringIn, byteIn, bitIn, kindIn, transferIn, phaseIn, queuesIn, regsIn, controlIn, stateIn, part, lowBytes};
+use bank::Control;
+use bank::Kind;
+use bank::Phase;
+use bank::Queues;
+use bank::Regs;
+use bank::State;
+use bank::Transfer;
+use ring::Bytes;
+use ring::Ring;
+use ring::Words;
+
+fn ring_in(image: &[u32], at: usize) -> Ring
+    requires { ⌜ at + 4 ≤ length (now image) ⌝ }
+    ensures { λ r. ⌜ r ≡ ringIn (now (image .entry)) at ⌝ }
+{
+    Ring {
+        cap: Words(image[at]),
+        mark: Words(image[at + 1]),
+        head: image[at + 2],
+        level: Words(image[at + 3]),
+    }
+}
+
+fn byte_in(image: &[u32], at: usize) -> u8
+    requires { ⌜ at + 1 ≤ length (now image) ⌝ }
+    ensures { λ r. ⌜ r ≡ byteIn (now (image .entry)) at ⌝ }
+{
+    (image[at] % 256) as u8
+}
+
+fn bit_in(image: &[u32], at: usize) -> bool
+    requires { ⌜ at + 1 ≤ length (now image) ⌝ }
+    ensures { λ r. ⌜ r ≡ bitIn (now (image .entry)) at ⌝ }
+{
+    image[at] == 1
+}
+
+fn kind_in(n: u32) -> Kind
+    ensures { λ k. ⌜ k ≡ kindIn n ⌝ }
+{
+    match n {
+        0 => Kind::Private,
+        1 => Kind::Direct,
+        _ => Kind::Broadcast,
+    }
+}
+
+fn phase_in(n: u32, t: Transfer) -> Phase
+    ensures { λ p. ⌜ p ≡ phaseIn n t ⌝ }
+{
+    match n {
+        0 => Phase::Idle,
+        1 => Phase::Writing(t),
+        2 => Phase::Reading(t),
+        3 => Phase::Unrequested(t),
+        4 => Phase::Requested(t),
+        _ => Phase::Answered(t),
+    }
+}
+
+fn queues_in(image: &[u32]) -> Queues
+    requires { ⌜ length (now image) ≡ size ⌝ }
+    ensures { λ q. ⌜ q ≡ queuesIn (now (image .entry)) ⌝ }
+{
+    Queues {
+        cmd: ring_in(image, 0),
+        cmdr: ring_in(image, 4),
+        sdo: ring_in(image, 8),
+        sdi: ring_in(image, 12),
+        ibi: ring_in(image, 16),
+    }
+}
+
+fn regs_in(image: &[u32]) -> Regs
+    requires { ⌜ length (now image) ≡ size ⌝ }
+    ensures { λ g. ⌜ g ≡ regsIn (now (image .entry)) ⌝ }
+{
+    Regs {
+        id: byte_in(image, 20),
+        scratch: image[21],
+        mask: byte_in(image, 22),
+        ops: byte_in(image, 23),
+        config: byte_in(image, 24),
+        selected: byte_in(image, 25),
+    }
+}
+
+fn control_in(image: &[u32]) -> Control
+    requires { ⌜ length (now image) ≡ size ⌝ }
+    ensures { λ c. ⌜ c ≡ controlIn (now (image .entry)) ⌝ }
+{
+    Control {
+        held: bit_in(image, 26),
+        sync: byte_in(image, 27),
+        ibisync: byte_in(image, 28),
+        cmdrpending: bit_in(image, 29),
+        ibipending: bit_in(image, 30),
+        daapending: bit_in(image, 31),
+        burst: byte_in(image, 32),
+    }
+}
+
+fn transfer_in(image: &[u32]) -> Transfer
+    requires { ⌜ length (now image) ≡ size ⌝ }
+    ensures { λ t. ⌜ t ≡ transferIn (now (image .entry)) ⌝ }
+{
+    let k = kind_in(image[34]);
+    Transfer {
+        kind: k,
+        header: bit_in(image, 35),
+        length: Bytes(image[36]),
+        moved: Bytes(image[37]),
+        attached: bit_in(image, 38),
+        part: image[39],
+    }
+}
+
+pub fn state_in(image: &[u32]) -> State
+    requires { ⌜ length (now image) ≡ size ⌝ }
+    ensures { λ s. ⌜ s ≡ stateIn (now (image .entry)) ⌝ }
+{
+    let q = queues_in(image);
+    let g = regs_in(image);
+    let c = control_in(image);
+    let t = transfer_in(image);
+    let p = phase_in(image[33], t);
+    State {
+        queues: q,
+        regs: g,
+        control: c,
+        phase: p,
+    }
+}
+
+pub fn flags_in(image: &[u32]) -> [u8; 128]
+    requires { ⌜ length (now image) ≡ size ⌝ }
+    ensures { λ fs. ⌜ fs ≡ lowBytes (part 40 128 (now (image .entry))) ⌝ }
+{
+    let mut flags = [0u8; 128];
+    for i in 0..128 {
+        flags[i] = byte_in(image, 40 + i);
+    }
+    flags
+}
+
+pub fn words_in(image: &[u32], at: usize) -> [u32; 16]
+    requires { ⌜ at + 16 ≤ length (now image) ⌝ }
+    ensures { λ ws. ⌜ ws ≡ part at 16 (now (image .entry)) ⌝ }
+{
+    let mut ws = [0u32; 16];
+    for i in 0..16 {
+        ws[i] = image[at + i];
+    }
+    ws
+}

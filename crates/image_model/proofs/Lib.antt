@@ -1,0 +1,7 @@
+pub mod Fill
+pub mod Numbers
+pub mod Parts
+pub mod Words
+pub mod Encoded
+pub mod Back
+pub mod Laws

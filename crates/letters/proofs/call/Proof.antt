@@ -1,0 +1,89 @@
+-- `letters::call` meets its contract.
+use Rattle.letters.proofs.Letters.{absent}
+use Rattle.letters.specs.Named.{namedBy}
+use mathlib.Core.Option.{Option}
+use Rattle.letters.specs.Forms.{Form, forms, find, formOf}
+use mathlib.Core.Path.{sym, ap}
+use Prim.Native.Nat.{ℕ}
+use borrow.Author.Needs.{needs}
+use Rattle.letters.proofs.call.Statement.{statement}
+use Rattle.letters.proofs.call.Tie as tie
+
+cast-t6 : tie.Need-cast-t6
+cast-t6 c = search needs
+
+cast-t9 : tie.Need-cast-t9
+cast-t9 c = search needs
+
+cast-t14 : tie.Need-cast-t14
+cast-t14 c = search needs
+
+cast-t17 : tie.Need-cast-t17
+cast-t17 c = search needs
+
+cast-t20 : tie.Need-cast-t20
+cast-t20 c = search needs
+
+cast-t22 : tie.Need-cast-t22
+cast-t22 c = search needs
+
+returns : tie.Need-returns
+unfolding forms find
+returns c = let a = c .before .args in sym (ap (λ (l : ℕ). namedBy (formOf l) (a .v) (a .w)) (c .match .keys1))
+
+returns-2 : tie.Need-returns-2
+unfolding forms find
+returns-2 c = let a = c .before .args in sym (ap (λ (l : ℕ). namedBy (formOf l) (a .v) (a .w)) (c .match .keys2))
+
+returns-3 : tie.Need-returns-3
+unfolding forms find
+returns-3 c = let a = c .before .args in sym (ap (λ (l : ℕ). namedBy (formOf l) (a .v) (a .w)) (c .match .keys3))
+
+returns-4 : tie.Need-returns-4
+unfolding forms find
+returns-4 c = let a = c .before .args in sym (ap (λ (l : ℕ). namedBy (formOf l) (a .v) (a .w)) (c .match .keys4))
+
+returns-5 : tie.Need-returns-5
+unfolding forms find
+returns-5 c = let a = c .before .args in sym (ap (λ (l : ℕ). namedBy (formOf l) (a .v) (a .w)) (c .match .keys5))
+
+returns-6 : tie.Need-returns-6
+unfolding forms find
+returns-6 c = let a = c .before .args in sym (ap (λ (l : ℕ). namedBy (formOf l) (a .v) (a .w)) (c .match .keys6))
+
+returns-7 : tie.Need-returns-7
+unfolding forms find
+returns-7 c = let a = c .before .args in sym (ap (λ (l : ℕ). namedBy (formOf l) (a .v) (a .w)) (c .match .keys7))
+
+returns-8 : tie.Need-returns-8
+unfolding forms find
+returns-8 c = let a = c .before .args in sym (ap (λ (l : ℕ). namedBy (formOf l) (a .v) (a .w)) (c .match .keys8))
+
+returns-9 : tie.Need-returns-9
+unfolding forms find
+returns-9 c = let a = c .before .args in sym (ap (λ (l : ℕ). namedBy (formOf l) (a .v) (a .w)) (c .match .keys9))
+
+returns-10 : tie.Need-returns-10
+unfolding forms find
+returns-10 c = let a = c .before .args in sym (ap (λ (f : Option Form). namedBy f (a .v) (a .w)) (absent (a .letter) (c .match .rest)))
+
+pub call-spec : {M : Type 1} → statement M
+call-spec =
+    tie.close
+    (tie.spec
+    cast-t6
+    cast-t9
+    cast-t14
+    cast-t17
+    cast-t20
+    cast-t22
+    returns
+    returns-2
+    returns-3
+    returns-4
+    returns-5
+    returns-6
+    returns-7
+    returns-8
+    returns-9
+    returns-10)

@@ -1,0 +1,89 @@
+// The records of a section, played one after another. The two tests of bank and store are made once, before the records:
+// no call changes what they say.
+ghost use mathlib.Core.Path.{_≡_};
+ghost use Prim.Native.Nat.{_*_, _≤_};
+ghost use lib.ListN.{length};
+ghost use Rattle.answer.specs.Given.{bankWith, controller, tables};
+ghost use Rattle.faults.specs.Faults.{faultNumber};
+ghost use Rattle.record_model.specs.Record.{each};
+ghost use Rattle.playback_model.specs.Replay.{begun, did, wrong, played};
+ghost use Rattle.replayed.specs.Given.{reached, replayedWith};
+use bank::Answer;
+use bank::Bank;
+use bank::State;
+use letters::Parsed;
+use replayed::Reached;
+use replayed::Replayed;
+
+// The first `n` records, on a state and its lent tables: a layer, no interface.
+fn replay_parts(
+    st: State,
+    flags: &mut [u8; 128],
+    commands: &mut [u32; 16],
+    payloads: &mut [u32; 16],
+    store: &mut [u32],
+    output: &mut [u32],
+    fault: u32,
+    records: &[u8],
+    n: usize,
+) -> Reached
+    requires { ⌜ (fault ≡ faultNumber (bankWith st (tables (now flags) (now commands) (now payloads) (now output))) (length (now store))) × (12 * n ≤ length (now records)) ⌝ }
+    ensures { λ r. ⌜ reached r (tables (now (flags .exit)) (now (commands .exit)) (now (payloads .exit)) (now (output .exit))) (now (store .exit)) ≡ each did wrong n (now (records .entry)) 0 (begun 0 (controller (bankWith st (tables (now (flags .entry)) (now (commands .entry)) (now (payloads .entry)) (now (output .entry)))) (now (store .entry)) (now (output .entry)))) ⌝ }
+{
+    let mut s = st;
+    let mut a = Answer {
+        value: 0,
+        number: 0,
+    };
+    for i in 0..n {
+        match record::at(records, i) {
+            Parsed::Named(c) => {
+                let y = controller::step_parts(
+                    s,
+                    flags,
+                    commands,
+                    payloads,
+                    store,
+                    output,
+                    fault,
+                    c,
+                );
+                s = y.state;
+                a = y.answer;
+            }
+            Parsed::Skipped => {
+                return replayed::stopped(s, i, a);
+            }
+        }
+    }
+    replayed::reach(s, 0, n, a)
+}
+
+// The records in some bytes, at most `limit` of them; a wrong one ends it. The output is lent to each call.
+pub fn play(
+    b: Bank,
+    store: &mut [u32],
+    output: &mut [u32],
+    records: &[u8],
+    limit: usize,
+) -> Replayed
+    ensures { λ r. ⌜ replayedWith r (now (store .exit)) (now (output .exit)) ≡ played limit (now (records .entry)) (controller b (now (store .entry)) (now (output .entry))) ⌝ }
+{
+    let n = record::whole(limit, records);
+    let fault = faults::fault(b, store.len());
+    let mut f = b.flags;
+    let mut c = b.commands;
+    let mut p = b.payloads;
+    let y = replay_parts(
+        b.state,
+        &mut f,
+        &mut c,
+        &mut p,
+        store,
+        output,
+        fault,
+        records,
+        n,
+    );
+    replayed::out_of(y, f, c, p)
+}

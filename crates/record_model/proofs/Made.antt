@@ -1,0 +1,47 @@
+-- Records that all name calls, made one after another.
+use Prim.Native.Nat.{ℕ, zero, suc, _+_, _≤_, _<_}
+use native.Mathlib.Omega.{arith}
+use mathlib.Core.Path.{_≡_, refl, ap, sym, _∙_}
+use mathlib.Core.List.{List, [], _∷_, map, foldl}
+use lib.ListN.{length, getD, take, drop}
+use Rattle.model.specs.declared.Call.{Call}
+use Rattle.letters.specs.declared.Parsed.{Parsed}
+use Rattle.letters.specs.declared.Parsed.the-variants.{Named, Skipped}
+use Rattle.record_model.specs.Record.{recordAt, onward, each}
+use Rattle.record_model.specs.Writer.{namedFrom}
+
+-- so many of them
+pub each-named : {A : Type 0} (make : Call → A → A) (stop : A → A) (ks : List Call) (bytes : List ℕ) (i m : ℕ) (a : A) → namedFrom (length ks) bytes i ≡ map Named ks → m ≤ length ks
+    → each make stop m bytes i a ≡ foldl (λ x k. make k x) a (take m ks)
+unfolding each namedFrom
+each-named make stop ks bytes i zero a e h = refl
+each-named make stop [] bytes i (suc m) a e h = absurd (omega (arith, h))
+each-named make stop (k ∷ ks) bytes i (suc m) a e h =
+    ap (λ (p : Parsed). onward make stop p a (each make stop m bytes (suc i))) (ap (λ (ps : List Parsed). getD ps 0 Skipped) e)
+    ∙ each-named make stop ks bytes (suc i) m (make k a) (ap (drop 1) e) (omega (arith, h))
+
+-- all of them, and then a wrong one
+pub each-stopped : {A : Type 0} (make : Call → A → A) (stop : A → A) (ks : List Call) (bytes : List ℕ) (i m : ℕ) (a : A) → namedFrom (length ks) bytes i ≡ map Named ks → recordAt bytes (i + length ks) ≡ Skipped → length ks < m
+    → each make stop m bytes i a ≡ stop (foldl (λ x k. make k x) a ks)
+unfolding each namedFrom
+each-stopped make stop ks bytes i zero a e f h = absurd (omega (arith, h))
+each-stopped make stop [] bytes i (suc m) a e f h =
+    let j : i + 0 ≡ i = omega arith in
+    ap (λ (p : Parsed). onward make stop p a (each make stop m bytes (suc i))) (ap (recordAt bytes) (sym j) ∙ f)
+each-stopped make stop (k ∷ ks) bytes i (suc m) a e f h =
+    let j : suc i + length ks ≡ i + suc (length ks) = omega arith in
+    ap (λ (p : Parsed). onward make stop p a (each make stop m bytes (suc i))) (ap (λ (ps : List Parsed). getD ps 0 Skipped) e)
+    ∙ each-stopped make stop ks bytes (suc i) m (make k a) (ap (drop 1) e) (ap (recordAt bytes) j ∙ f) (omega (arith, h))
+
+length-named : (n : ℕ) (bytes : List ℕ) (i : ℕ) → length (namedFrom n bytes i) ≡ n
+unfolding namedFrom
+length-named zero bytes i = refl
+length-named (suc n) bytes i = ap suc (length-named n bytes (suc i))
+
+length-map : (ks : List Call) → length (map Named ks) ≡ length ks
+length-map [] = refl
+length-map (k ∷ ks) = ap suc (length-map ks)
+
+-- there are as many records as calls
+pub named-count : (n : ℕ) (bytes : List ℕ) (i : ℕ) (ks : List Call) → namedFrom n bytes i ≡ map Named ks → n ≡ length ks
+named-count n bytes i ks e = sym (length-named n bytes i) ∙ ap length e ∙ length-map ks

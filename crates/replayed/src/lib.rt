@@ -1,0 +1,84 @@
+// What the code of a replay gives, 02 §1: what it tells, with the state or the bank that it left. Its two ways to fail
+// stand here, since they make no call: at a wrong record, and refused as a whole.
+ghost use mathlib.Core.Path.{_≡_};
+ghost use mathlib.Core.List.{List, []};
+ghost use Prim.Native.Nat.{ℕ};
+ghost use Rattle.model.specs.View.{Tables};
+ghost use Rattle.answer.specs.Given.{bankWith, controller, tables};
+ghost use Rattle.playback_model.specs.Replay.{telling, begun, wrong};
+ghost use Rattle.replayed.specs.Given.{reached, replayedWith, replayedOut};
+use bank::Answer;
+use bank::Bank;
+use bank::State;
+use playback_model::Told;
+
+// The bank after a replay.
+pub struct Replayed {
+    pub bank: Bank,
+    pub told: Told,
+}
+
+// The state after some records; the tables stay where they are.
+pub struct Reached {
+    pub state: State,
+    pub told: Told,
+}
+
+// What is told of some records, and the state that they left.
+pub fn reach(s: State, number: u32, count: usize, a: Answer) -> Reached
+    ensures { λ r. ⌜ ((t : Tables) (st : List ℕ) → reached r t st ≡ telling number count a (controller (bankWith s t) st (t .output))) ⌝ }
+{
+    let told = Told {
+        number: number,
+        count: count,
+        answer: a,
+    };
+    Reached {
+        state: s,
+        told: told,
+    }
+}
+
+// A wrong record stops a replay with those before it done: so many, and the answer of the last.
+pub fn stopped(s: State, done: usize, a: Answer) -> Reached
+    ensures { λ r. ⌜ ((t : Tables) (st : List ℕ) → reached r t st ≡ wrong (telling 0 done a (controller (bankWith s t) st (t .output)))) ⌝ }
+{
+    reach(s, 27, done, a)
+}
+
+// A bank of a state and its tables, with what was told.
+pub fn out_of(y: Reached, flags: [u8; 128], commands: [u32; 16], payloads: [u32; 16]) -> Replayed
+    ensures { λ r. ⌜ ((s o : List ℕ) → replayedWith r s o ≡ reached y (tables flags commands payloads o) s) ⌝ }
+{
+    let s = y.state;
+    let bank = Bank {
+        state: s,
+        flags: flags,
+        commands: commands,
+        payloads: payloads,
+    };
+    let told = y.told;
+    Replayed {
+        bank: bank,
+        told: told,
+    }
+}
+
+// A replay that is refused as a whole, by the number of its look-up: no record done, the bank as it was.
+pub fn refused(b: Bank, why: u32) -> Replayed
+    ensures { λ r. ⌜ ((s : List ℕ) → replayedOut r s ≡ begun why (controller b s [])) ⌝ }
+{
+    let a = Answer {
+        value: 0,
+        number: 0,
+    };
+    let told = Told {
+        number: why,
+        count: 0,
+        answer: a,
+    };
+    Replayed {
+        bank: b,
+        told: told,
+    }
+}

@@ -1,0 +1,86 @@
+-- A session's bytes may be cut anywhere.
+use Prim.Native.Nat.{ℕ, suc, _+_, _<_}
+use mathlib.Core.Path.{_≡_, refl, ap, sym, _∙_}
+use mathlib.Core.Bool.{Bool, true, false, cond}
+use mathlib.Core.List.{List, [], _∷_, _++_, append-nil, append-assoc, foldl-append}
+use lib.Dec.{eqb}
+use lib.ListN.{length, getD, take}
+use lib.Seq.{take-suc}
+use native.Mathlib.Omega.{arith}
+use borrow.Author.Tests.{eq-eqb, ne-eqb}
+use Rattle.model.specs.Rings.{Controller}
+use Rattle.answer.specs.Given.{controller}
+use Rattle.lines.specs.declared.Reading.{Reading}
+use Rattle.sessions.specs.declared.Ran.{Ran}
+use Rattle.sessions.specs.declared.Ended.{Ended}
+use Rattle.lines.specs.Lines.{fresh, eatOf, callOf}
+use Rattle.sessions.specs.Session.{Told, ranOf, ranTold, endedSession, Session, session, lineEnd, fedByte, fed}
+use Rattle.lines.proofs.Choices.{chosen, passed}
+use Rattle.lines.proofs.Bytes.{take-next}
+
+pub cut : (s : Session) (a b : List ℕ) → fed s (a ++ b) ≡ fed (fed s a) b
+unfolding fed
+cut s a b = foldl-append fedByte s a b
+
+-- what is printed does not depend on what was printed before, and comes after it
+abbrev after : List ℕ → Session → Session
+after t s = session (s .controller) (s .line) (t ++ s .text)
+
+choice-after : (t : List ℕ) (s : Session) (b : ℕ) (newline : Bool)
+    → cond newline (lineEnd (after t s)) (session (s .controller) (eatOf (s .line) b) (t ++ s .text))
+    ≡ after t (cond newline (lineEnd s) (session (s .controller) (eatOf (s .line) b) (s .text)))
+choice-after t s b true =
+    let y = ranOf (s .controller) (callOf (s .line)) in
+    ap (session (y .controller) fresh) (append-assoc t (s .text) (y .text))
+choice-after t s b false = refl
+
+fed-after : (t : List ℕ) (s : Session) (bytes : List ℕ) → fed (after t s) bytes ≡ after t (fed s bytes)
+unfolding fed
+fed-after t s [] = refl
+fed-after t s (b ∷ bytes) = ap (λ (x : Session). fed x bytes) (choice-after t s b (eqb b 0x0a)) ∙ fed-after t (fedByte s b) bytes
+
+-- the text of two pieces is that of the first and then that of the second from where the first left bank, store, output and line
+pub pieces : (l : Controller) (r : Reading) (a b : List ℕ)
+    → let y = fed (session l r []) a in
+    fed (session l r []) (a ++ b) .text ≡ y .text ++ fed (session (y .controller) (y .line) []) b .text
+pieces l r a b =
+    let y = fed (session l r []) a in
+    ap (λ (x : Session). x .text) (cut (session l r []) a b)
+    ∙ ap (λ (t : List ℕ). fed (session (y .controller) (y .line) t) b .text) (sym (append-nil (y .text)))
+    ∙ ap (λ (x : Session). x .text) (fed-after (y .text) (session (y .controller) (y .line) []) b)
+
+-- one byte more
+pub fed-next : (s : Session) (bytes : List ℕ) (i : ℕ) → i < length bytes → fedByte (fed s (take i bytes)) (getD bytes i 0) ≡ fed s (take (i + 1) bytes)
+unfolding fed
+fed-next s bytes i h = sym (ap (fed s) (take-next bytes i h) ∙ cut s (take i bytes) (getD bytes i 0 ∷ []))
+
+-- ── The loop of `feed`, and the ends of `end_line` ───────────────────────────────────────────────
+-- a byte of a line
+pub fed-byte : (s : Session) (l : Controller) (r : Reading) (t bytes : List ℕ) (i : ℕ) → i < length bytes → session l r t ≡ fed s (take i bytes)
+    → (getD bytes i 0 ≡ 0x0a → ⊥) → session l (eatOf r (getD bytes i 0)) t ≡ fed s (take (i + 1) bytes)
+fed-byte s l r t bytes i h e n = sym (passed (eqb (getD bytes i 0) 0x0a) (lineEnd (session l r t)) (session l (eatOf r (getD bytes i 0)) t) (ne-eqb (getD bytes i 0) 0x0a n)) ∙ ap (λ (x : Session). fedByte x (getD bytes i 0)) e ∙ fed-next s bytes i h
+
+-- a newline
+pub fed-newline : (s : Session) (l : Controller) (r : Reading) (t bytes : List ℕ) (i : ℕ) → i < length bytes → session l r t ≡ fed s (take i bytes)
+    → getD bytes i 0 ≡ 0x0a → (y : Ended) (s′ o out : List ℕ) → endedSession y s′ o out ≡ lineEnd (session l r t) → (q : Reading) → q ≡ fresh
+    → session (controller (y .bank) s′ o) q (take (y .count) out) ≡ fed s (take (i + 1) bytes)
+fed-newline s l r t bytes i h e n y s′ o out z q f =
+    ap (λ (x : Reading). session (controller (y .bank) s′ o) x (take (y .count) out)) f
+    ∙ z
+    ∙ sym (chosen (eqb (getD bytes i 0) 0x0a) (lineEnd (session l r t)) (session l (eatOf r (getD bytes i 0)) t) (eq-eqb (getD bytes i 0) 0x0a n))
+    ∙ ap (λ (x : Session). fedByte x (getD bytes i 0)) e
+    ∙ fed-next s bytes i h
+
+-- the end of a line that names no call, and of one that names a call
+pub silent : (l : Controller) (r : Reading) (y : Ran) (s o t : List ℕ) → ranTold y s o ≡ ranOf l (callOf r) → y .said ≡ false
+    → session (controller (y .bank) s o) fresh t ≡ lineEnd (session l r t)
+silent l r y s o t e n =
+    sym (ap (λ (x : List ℕ). session (controller (y .bank) s o) fresh (t ++ x)) (passed (y .said) (y .text) [] n) ∙ ap (session (controller (y .bank) s o) fresh) (append-nil t))
+    ∙ ap (λ (x : Told). session (x .controller) fresh (t ++ x .text)) e
+
+pub spoken : (l : Controller) (r : Reading) (y : Ran) (s o t t′ : List ℕ) → ranTold y s o ≡ ranOf l (callOf r) → y .said ≡ true → t′ ≡ t ++ y .text
+    → session (controller (y .bank) s o) fresh t′ ≡ lineEnd (session l r t)
+spoken l r y s o t t′ e n z =
+    ap (session (controller (y .bank) s o) fresh) z
+    ∙ sym (ap (λ (x : List ℕ). session (controller (y .bank) s o) fresh (t ++ x)) (chosen (y .said) (y .text) [] n))
+    ∙ ap (λ (x : Told). session (x .controller) fresh (t ++ x .text)) e

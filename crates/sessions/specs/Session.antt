@@ -1,0 +1,69 @@
+-- A session of 01: bytes come in, lines are told apart, calls made, answers printed.
+use Prim.Native.Nat.{ℕ}
+use mathlib.Core.Bool.{cond}
+use mathlib.Core.List.{List, [], _++_, foldl}
+use lib.Dec.{eqb}
+use lib.ListN.{take}
+use Rattle.bank.specs.declared.Answer.{Answer}
+use Rattle.model.specs.Engine.{step}
+use Rattle.model.specs.Rings.{Controller, rings}
+use Rattle.answer.specs.Given.{controller}
+use Rattle.print.specs.Line.{lineOf}
+use Rattle.lines.specs.declared.Reading.{Reading}
+use Rattle.sessions.specs.declared.Ran.{Ran}
+use Rattle.sessions.specs.declared.Ended.{Ended}
+use Rattle.sessions.specs.declared.Fed.{Fed}
+use Rattle.letters.specs.declared.Parsed.{Parsed}
+use Rattle.letters.specs.declared.Parsed.the-variants.{Named, Skipped}
+use Rattle.lines.specs.Lines.{fresh, eatOf, callOf}
+
+-- a bank with its store and output, and what was printed
+pub record Told : Type 0 where
+  pub controller : Controller
+  pub text : List ℕ
+
+abbrev pub told : Controller → List ℕ → Told
+told l t = record { controller = l; text = t }
+
+abbrev pub answerLine : Answer → List ℕ
+answerLine a = lineOf (a .value) (a .number)
+
+-- a call is made and its answer printed; "other lines are skipped"
+abbrev pub ranOf : Controller → Parsed → Told
+ranOf l Skipped = told l []
+ranOf l (Named c) = let s = step rings l c in told (s .next) (answerLine (s .answer))
+
+-- what `run` gives
+abbrev pub ranTold : Ran → List ℕ → List ℕ → Told
+ranTold r s o = told (controller (r .bank) s o) (cond (r .said) (r .text) [])
+
+-- a session between two bytes: bank, store and output, the line so far, what was printed
+pub record Session : Type 0 where
+  pub controller : Controller
+  pub line : Reading
+  pub text : List ℕ
+
+abbrev pub session : Controller → Reading → List ℕ → Session
+session l r t = record { controller = l; line = r; text = t }
+
+-- what `end_line` and `feed` give
+abbrev pub endedSession : Ended → List ℕ → List ℕ → List ℕ → Session
+endedSession r s o out = session (controller (r .bank) s o) fresh (take (r .count) out)
+
+abbrev pub fedSession : Fed → List ℕ → List ℕ → List ℕ → Session
+fedSession r s o out = session (controller (r .bank) s o) (r .line) (take (r .count) out)
+
+-- the end of a line
+abbrev pub lineEnd : Session → Session
+lineEnd s = let t = ranOf (s .controller) (callOf (s .line)) in session (t .controller) fresh (s .text ++ t .text)
+
+-- "a line ends at a newline or the end of the input"
+abbrev pub fedByte : Session → ℕ → Session
+fedByte s b = cond (eqb b 0x0a) (lineEnd s) (session (s .controller) (eatOf (s .line) b) (s .text))
+
+unfoldable pub fed : Session → List ℕ → Session
+fed = foldl fedByte
+
+-- what a session prints on a whole input
+abbrev pub printed : Controller → List ℕ → List ℕ
+printed l bytes = lineEnd (fed (session l fresh []) bytes) .text

@@ -1,0 +1,123 @@
+// Records of a trace, and a line for each, 02 §1. The two tests of bank and store are made once, before the records: no
+// call changes what they say. Every call is lent an empty output: no record names the trigger. `out` takes the text; its
+// bytes past the text are left free.
+ghost use mathlib.Core.Path.{_≡_};
+ghost use mathlib.Core.Bool.{false};
+ghost use mathlib.Core.List.{List, []};
+ghost use Prim.Native.Nat.{ℕ, _*_, _≤_};
+ghost use lib.ListN.{length};
+ghost use Rattle.answer.specs.Given.{bankWith, controller, tables};
+ghost use Rattle.faults.specs.Faults.{faultNumber};
+ghost use Rattle.record_model.specs.Record.{each};
+ghost use Rattle.stream_model.specs.Stream.{printed, said, met, lines};
+ghost use Rattle.stream_lines.specs.Given.{shownParts, shownBank};
+use bank::Bank;
+use bank::State;
+use letters::Parsed;
+
+// The state after some records, whether a wrong one was met, and how many bytes of the text are filled.
+struct Lines {
+    state: State,
+    wrong: bool,
+    count: usize,
+}
+
+// The same with a bank.
+pub struct Shown {
+    pub bank: Bank,
+    pub wrong: bool,
+    pub count: usize,
+}
+
+// The first `n` records and their lines, on a state and its lent tables: a layer, no interface.
+fn show_parts(
+    st: State,
+    flags: &mut [u8; 128],
+    commands: &mut [u32; 16],
+    payloads: &mut [u32; 16],
+    store: &mut [u32],
+    output: &mut [u32],
+    fault: u32,
+    records: &[u8],
+    n: usize,
+    out: &mut [u8],
+) -> Lines
+    requires { ⌜ (fault ≡ faultNumber (bankWith st (tables (now flags) (now commands) (now payloads) (now output))) (length (now store))) × (12 * n ≤ length (now records)) × (12 * n ≤ length (now out)) ⌝ }
+    ensures { λ r. ⌜ (shownParts r (tables (now (flags .exit)) (now (commands .exit)) (now (payloads .exit)) (now (output .exit))) (now (store .exit)) (now (out .exit)) ≡ each said met n (now (records .entry)) 0 (printed (controller (bankWith st (tables (now (flags .entry)) (now (commands .entry)) (now (payloads .entry)) (now (output .entry)))) (now (store .entry)) (now (output .entry))) [] false)) × (r .count ≤ 12 * n) ⌝ }
+{
+    let mut s = st;
+    for i in 0..n {
+        match record::at(records, i) {
+            Parsed::Named(c) => {
+                let y = controller::step_parts(
+                    s,
+                    flags,
+                    commands,
+                    payloads,
+                    store,
+                    output,
+                    fault,
+                    c,
+                );
+                s = y.state;
+                let text = print::line(y.answer);
+                print::put(out, 12 * i, text);
+            }
+            Parsed::Skipped => {
+                return Lines {
+                    state: s,
+                    wrong: true,
+                    count: 12 * i,
+                };
+            }
+        }
+    }
+    Lines {
+        state: s,
+        wrong: false,
+        count: 12 * n,
+    }
+}
+
+// A bank of a state and its tables.
+fn shown_of(y: Lines, flags: [u8; 128], commands: [u32; 16], payloads: [u32; 16]) -> Shown
+    ensures { λ r. ⌜ ((s t : List ℕ) → shownBank r s t ≡ shownParts y (tables flags commands payloads []) s t) × (r .count ≡ y .count) ⌝ }
+{
+    let s = y.state;
+    let bank = Bank {
+        state: s,
+        flags: flags,
+        commands: commands,
+        payloads: payloads,
+    };
+    Shown {
+        bank: bank,
+        wrong: y.wrong,
+        count: y.count,
+    }
+}
+
+// The first `n` records and their lines: a layer, no interface.
+pub fn show(b: Bank, store: &mut [u32], records: &[u8], n: usize, out: &mut [u8]) -> Shown
+    requires { ⌜ (12 * n ≤ length (now records)) × (12 * n ≤ length (now out)) ⌝ }
+    ensures { λ r. ⌜ (shownBank r (now (store .exit)) (now (out .exit)) ≡ lines n (now (records .entry)) (controller b (now (store .entry)) [])) × (r .count ≤ 12 * n) ⌝ }
+{
+    let fault = faults::fault(b, store.len());
+    let mut f = b.flags;
+    let mut c = b.commands;
+    let mut p = b.payloads;
+    let mut none = [0u32; 0];
+    let y = show_parts(
+        b.state,
+        &mut f,
+        &mut c,
+        &mut p,
+        store,
+        &mut none,
+        fault,
+        records,
+        n,
+        out,
+    );
+    shown_of(y, f, c, p)
+}

@@ -1,0 +1,51 @@
+-- What a stream promises beside its definition.
+use Prim.Native.Nat.{ℕ, _+_, _≤_}
+use mathlib.Core.Path.{_≡_}
+use mathlib.Core.Bool.{true, false, cond}
+use mathlib.Core.List.{List, [], _∷_, _++_, foldl, flatten}
+use lib.ListN.{length, drop}
+use Rattle.model.specs.declared.Call.{Call}
+use Rattle.model.specs.Rings.{Controller}
+use Rattle.print.specs.Line.{lineOf}
+use Rattle.trace_model.specs.Format.{sections, records, fault}
+use Rattle.trace_model.specs.Head.{headLength}
+use Rattle.record_model.specs.Writer.{traceOf, everyWritable}
+use Rattle.stream_model.specs.declared.Stage.{Stage}
+use Rattle.stream_model.specs.declared.Stage.the-variants.{Opening}
+use Rattle.stream_model.specs.Stream.{printed, said, lines, Stream, stream, fed, endText, transcript}
+
+-- one piece after another
+abbrev pub after : Stream → Stream → Stream
+after s t = stream (t .left) (t .stage) (s .used + t .used) (s .text ++ t .text)
+
+-- how an input is cut does not matter: two pieces, the second behind what the first did not use, leave and print what both at once do
+unfoldable pub CutAnywhere : Type 0
+CutAnywhere = (l : Controller) (s : Stage) (a b : List ℕ)
+    → (let y = fed l s a in after y (fed (y .left) (y .stage) (drop (y .used) a ++ b))) ≡ fed l s (a ++ b)
+
+-- what is printed for pieces one after another, each behind the bytes that those before did not use, and then the end
+unfoldable pub fedPieces : Controller → Stage → List ℕ → List (List ℕ) → List ℕ
+fedPieces l s held [] = endText s (length held)
+fedPieces l s held (p ∷ ps) = let y = fed l s (held ++ p) in y .text ++ fedPieces (y .left) (y .stage) (drop (y .used) (held ++ p)) ps
+
+-- however many pieces an input comes in, it prints what it does as a whole, the end included
+unfoldable pub AnyPieces : Type 0
+AnyPieces = (l : Controller) (ps : List (List ℕ)) → fedPieces l Opening [] ps ≡ transcript l (flatten ps)
+
+-- a file without a fault: the lines of its records, and at a wrong one 27
+unfoldable pub SoundIsPrinted : Type 0
+SoundIsPrinted = (l : Controller) (file : List ℕ) → fault file ≡ 0
+    → (let p = lines (records file (sections file)) (drop (headLength file) file) l in transcript l file ≡ p .text ++ cond (p .wrong) (lineOf 0 27) [])
+
+-- a mark that is wrong or cut short is told, and nothing else
+unfoldable pub MarkIsTold : Type 0
+MarkIsTold = (l : Controller) (file : List ℕ) → fault file ≡ 24 → transcript l file ≡ lineOf 0 24
+
+-- the lines of some calls, made one after another
+abbrev pub spoken : List Call → Controller → List ℕ
+spoken ks l = foldl (λ p k. said k p) (printed l [] false) ks .text
+
+-- "replays all sections of standard input in order": for a written trace the lines of all its calls, and nothing else
+unfoldable pub WrittenIsPrinted : Type 0
+WrittenIsPrinted = (ss : List (List Call)) (l : Controller) → 1 ≤ length ss → length ss ≤ 64 → length (traceOf ss) ≤ 0x1000000 → everyWritable ss ≡ true
+    → transcript l (traceOf ss) ≡ spoken (flatten ss) l

@@ -1,0 +1,34 @@
+-- What the first bytes of a trace tell a reader that has no more of it yet, 02 §1: mark and table by the definitions of a whole file.
+use Prim.Native.Nat.{ℕ, _+_, _*_}
+use mathlib.Core.Bool.{cond, _&&_}
+use mathlib.Core.List.{List}
+use lib.Dec.{ltb, leb}
+use lib.ListN.{length}
+use Rattle.trace_model.specs.declared.Head.{Head}
+use Rattle.trace_model.specs.declared.Head.the-variants.{More, Wrong, Right}
+use Rattle.trace_model.specs.Format.{mark, opens, sections, records, placeOf, startsRight}
+
+-- the length of mark and table; the records stand behind them
+abbrev pub headLength : List ℕ → ℕ
+headLength bytes = 6 + 8 * sections bytes
+
+-- "25 contents wrong"; "at once if the table asks for more than 16 MiB"
+abbrev pub tableTold : List ℕ → Head
+tableTold bytes =
+    let n = sections bytes in
+    cond (startsRight bytes n && leb (placeOf bytes n) 0x1000000) (Right (headLength bytes) (records bytes n)) (Wrong 25)
+
+abbrev pub countTold : List ℕ → Head
+countTold bytes =
+    let n = sections bytes in
+    cond (leb 1 n && leb n 64) (cond (ltb (length bytes) (headLength bytes)) More (tableTold bytes)) (Wrong 25)
+
+-- "24 mark wrong"
+abbrev pub headOf : List ℕ → Head
+headOf bytes =
+    cond (ltb (length bytes) 4) More
+    (cond (opens mark bytes) (cond (ltb (length bytes) 6) More (countTold bytes)) (Wrong 24))
+
+-- a file that ends before its mark is whole, and one that ends in its table
+abbrev pub cutHead : ℕ → ℕ
+cutHead n = cond (ltb n 4) 24 25

@@ -1,0 +1,4 @@
+pub mod Among
+pub mod Leaves
+pub mod Statements
+pub mod Borrows

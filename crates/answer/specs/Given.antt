@@ -1,74 +1,67 @@
 -- What the code of a call gives, as a step of the ring engine.
 use Prim.Native.Nat.{ℕ}
 use mathlib.Core.Path.{_≡_}
-use mathlib.Core.Bool.{true, cond}
+use mathlib.Core.Bool.{true}
 use mathlib.Core.List.{List}
 use mathlib.Core.Option.{none}
 use lib.ListN.{length}
-use Rattle.bank.specs.declared.Queues.{Queues}
+use Rattle.bank.specs.declared.Counts.{Counts}
+use Rattle.bank.specs.declared.Heads.{Heads}
 use Rattle.bank.specs.declared.Regs.{Regs}
 use Rattle.bank.specs.declared.Control.{Control}
 use Rattle.bank.specs.declared.Phase.{Phase}
 use Rattle.bank.specs.declared.State.{State}
 use Rattle.bank.specs.declared.Bank.{Bank}
+use Rattle.bank.specs.declared.Answer.{Answer}
+use Rattle.bank.specs.Queues.{queuesOf}
 use Rattle.bank.specs.SetUp.{total}
-use Rattle.bank.specs.Formed.{queuesOk, regsOk, openOk}
-use Rattle.model.specs.View.{Tables, View}
-use Rattle.model.specs.Decision.{Effect, Decision, does, _⇒_∣_, first, effect}
+use Rattle.bank.specs.Formed.{queuesOk, openOk}
+use Rattle.model.specs.View.{Tables, tables, View}
+use Rattle.model.specs.Decision.{Effect, Decision, first, effect}
 use Rattle.model.specs.Engine.{Step, outcome}
 use Rattle.model.specs.Rings.{Controller, viewRings, settleRings}
 use Rattle.answer.specs.declared.Next.{Next}
 use Rattle.answer.specs.declared.Out.{Out}
 
--- a bank by its state and its tables, and with the store and the output that are lent
-abbrev pub bankWith : State → Tables → Bank
-bankWith st t = record { state = st; flags = t .flags; commands = t .commands; payloads = t .payloads }
-
-abbrev pub tables : List ℕ → List ℕ → List ℕ → List ℕ → Tables
-tables f c p o = record { flags = f; commands = c; payloads = p; output = o }
+-- ── A bank by its parts ───────────────────────────────────────────────────────────────────────────────────────
+abbrev pub bankWith : State → Heads → Tables → Bank
+bankWith st h t = record { state = st; heads = h; flags = t .flags; commands = t .commands; payloads = t .payloads }
 
 abbrev pub tablesOf : Bank → List ℕ → Tables
 tablesOf b o = tables (b .flags) (b .commands) (b .payloads) o
 
+-- with the store and the output that are lent
 abbrev pub controller : Bank → List ℕ → List ℕ → Controller
 controller b s o = record { bank = b; store = s; output = o }
 
-abbrev pub view : State → Tables → List ℕ → View
-view st t s = viewRings (controller (bankWith st t) s (t .output))
+abbrev pub view : State → Heads → Tables → List ℕ → View
+view st h t s = viewRings (controller (bankWith st h t) s (t .output))
 
--- the number of the first test that holds, 0 where none does
-abbrev pub number : Decision → ℕ
-number (does e) = 0
-number (b ⇒ n ∣ d) = cond b n (number d)
-
--- what code gives, over the tables, the store and the output that it left
+-- ── What code gives ───────────────────────────────────────────────────────────────────────────────────────────
+-- over the tables, the store and the output that it left
 abbrev pub given : Next → Tables → List ℕ → Step Controller
-given y t s = record { answer = y .answer; next = controller (bankWith (y .state) t) s (t .output) }
+given y t s = record { answer = y .answer; next = controller (bankWith (y .state) (y .heads) t) s (t .output) }
 
 abbrev pub givenOut : Out → List ℕ → List ℕ → Step Controller
 givenOut y s o = record { answer = y .answer; next = controller (y .bank) s o }
 
-abbrev pub refusedNext : State → ℕ → Next
-refusedNext st n = record { state = st; answer = record { value = 0; number = n } }
+abbrev pub nextOf : Counts → Counts → Heads → Regs → Control → Phase → Answer → Next
+nextOf caps levels h g c p a = record { state = record { caps = caps; levels = levels; regs = g; control = c; phase = p }; heads = h; answer = a }
 
-abbrev pub doneNext : Queues → Regs → Control → Phase → ℕ → ℕ → Next
-doneNext q g c p v n = record { state = record { queues = q; regs = g; control = c; phase = p }; answer = record { value = v; number = n } }
+abbrev pub refusedNext : State → Heads → ℕ → Next
+refusedNext st h n = record { state = st; heads = h; answer = record { value = 0; number = n } }
 
--- a call past the two tests of bank and store, by its decision
-unfoldable pub decided : State → Tables → List ℕ → Decision → Step Controller
-decided st t s d = let l = controller (bankWith st t) s (t .output) in outcome (first d) (effect d) l (settleRings l (effect d))
+-- ── Past the two tests of bank and store ──────────────────────────────────────────────────────────────────────
+-- a call, by its decision
+unfoldable pub decided : State → Heads → Tables → List ℕ → Decision → Step Controller
+decided st h t s d = let l = controller (bankWith st h t) s (t .output) in outcome (first d) (effect d) l (settleRings l (effect d))
 
--- where no test holds
-abbrev pub served : State → Tables → List ℕ → Effect → Step Controller
-served st t s e = let l = controller (bankWith st t) s (t .output) in outcome none e l (settleRings l e)
+-- an effect, settled
+abbrev pub served : State → Heads → Tables → List ℕ → Effect → Step Controller
+served st h t s e = let l = controller (bankWith st h t) s (t .output) in outcome none e l (settleRings l e)
 
--- what every call behind the two tests uses of them
-pub record Open (st : State) (s : List ℕ) : Type 0 where
-  pub queues : queuesOk (st .queues) ≡ true
-  pub regs : regsOk (st .regs) ≡ true
-  pub size : length s ≡ total (st .queues)
-
--- what an event uses of them: also what well formed asks of the open transfer, and of an open burst
-pub record OpenWith (st : State) (commands s : List ℕ) : Type 0 where
-  pub bank : Open st s
+-- what the two tests say: the rings are valid, the store has their length, and what is open is well formed
+pub record Open (st : State) (h : Heads) (commands s : List ℕ) : Type 0 where
+  pub queues : queuesOk (queuesOf (st .caps) (st .levels) h) ≡ true
+  pub size : length s ≡ total (st .caps)
   pub phase : openOk (st .control) (st .regs) (st .phase) commands ≡ true

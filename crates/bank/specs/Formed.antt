@@ -6,7 +6,6 @@ use mathlib.Core.List.{List, [], _∷_}
 use lib.Dec.{leb, ltb, eqb}
 use lib.ListN.{getD}
 use Rattle.ring.specs.declared.Ring.{Ring}
-use Rattle.bank.specs.declared.Queues.{Queues}
 use Rattle.bank.specs.declared.Regs.{Regs}
 use Rattle.bank.specs.declared.Control.{Control}
 use Rattle.bank.specs.declared.Transfer.{Transfer}
@@ -14,11 +13,12 @@ use Rattle.bank.specs.declared.Phase.{Phase}
 use Rattle.bank.specs.declared.Bank.{Bank}
 use Rattle.bank.specs.Phases.{idle, transfer, limit, partBytes}
 use Rattle.bank.specs.Bursts.{offloads, span, allCarried, bursting, place, opens, gatheredBytes}
-use Rattle.bank.specs.SetUp.{sizeOk}
+use Rattle.bank.specs.Queues.{Queues, queuesIn}
+use Rattle.bank.specs.SetUp.{sizeOk, marksOk}
 
 -- "set-up numbers in range; each head below and each level at most its capacity"
 abbrev pub ringOk : ℕ → Ring → Bool
-ringOk least r = sizeOk least (r .cap .0) (r .mark .0) && ltb (r .head) (r .cap .0) && leb (r .level .0) (r .cap .0)
+ringOk least r = sizeOk least (r .cap .0) && ltb (r .head) (r .cap .0) && leb (r .level .0) (r .cap .0)
 
 unfoldable pub queuesOk : Queues → Bool
 queuesOk q = ringOk 2 (q .cmd) && ringOk 1 (q .cmdr) && ringOk 1 (q .sdo) && ringOk 2 (q .sdi) && ringOk 1 (q .ibi)
@@ -63,4 +63,5 @@ resetOk c p q = not (c .held) || (queuesClear q && controlClear c && idle p)
 
 unfoldable pub wellFormed : Bank → Bool
 wellFormed b =
-    queuesOk (b .state .queues) && regsOk (b .state .regs) && openOk (b .state .control) (b .state .regs) (b .state .phase) (b .commands) && resetOk (b .state .control) (b .state .phase) (b .state .queues) && flagsOk (b .flags)
+    let s = b .state in
+    queuesOk (queuesIn b) && (regsOk (s .regs) && marksOk (s .regs .marks) (s .caps)) && openOk (s .control) (s .regs) (s .phase) (b .commands) && resetOk (s .control) (s .phase) (queuesIn b) && flagsOk (b .flags)

@@ -1,5 +1,6 @@
 pub mod Bits
 pub mod Phases
 pub mod Bursts
+pub mod Queues
 pub mod SetUp
 pub mod Formed

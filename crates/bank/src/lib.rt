@@ -1,25 +1,34 @@
-// One controller's state: five rings, the registers, the open transfer, the device table and the offload memories.
+// One controller's state: five queues, the registers, the open transfer, the device table and the offload memories.
 ghost use mathlib.Core.Path.{_≡_};
 ghost use mathlib.Core.Bool.{cond};
-ghost use Prim.Native.Nat.{_+_};
-ghost use Rattle.bank.specs.SetUp.{sizeOk, cleared, total};
+ghost use Prim.Native.Nat.{_+_, _-_};
+ghost use Rattle.bank.specs.SetUp.{sizeOk, marksOk, cleared, total};
 use ring::Bytes;
-use ring::Ring;
+use ring::Words;
 
 pub mod bursts;
 pub mod phases;
 
-// The five queues, in the order of their areas in the store.
-pub struct Queues {
-    pub cmd: Ring,
-    pub cmdr: Ring,
-    pub sdo: Ring,
-    pub sdi: Ring,
-    pub ibi: Ring,
+// A count of words for each queue: capacities, levels or watermarks.
+pub struct Counts {
+    pub cmd: Words,
+    pub cmdr: Words,
+    pub sdo: Words,
+    pub sdi: Words,
+    pub ibi: Words,
 }
 
-// The registers that a reset leaves: ID, SCRATCH, IRQ_MASK, OPS but its bit 7, IBI_CONFIG, and the address that
-// DEV_CHAR selects.
+// Where the first word of each queue lies within its area of the store.
+pub struct Heads {
+    pub cmd: u32,
+    pub cmdr: u32,
+    pub sdo: u32,
+    pub sdi: u32,
+    pub ibi: u32,
+}
+
+// The registers that a reset leaves: ID, SCRATCH, IRQ_MASK, OPS but its bit 7, IBI_CONFIG, the address that DEV_CHAR
+// selects, and the watermarks.
 pub struct Regs {
     pub id: u8,
     pub scratch: u32,
@@ -27,6 +36,7 @@ pub struct Regs {
     pub ops: u8,
     pub config: u8,
     pub selected: u8,
+    pub marks: Counts,
 }
 
 // What a reset sets, besides the queues and the transfer: the ENABLE bit, the sync of receipts and that of interrupts,
@@ -72,9 +82,10 @@ pub enum Phase {
     Answered(Transfer),
 }
 
-// All of a bank but its arrays.
+// What calls decide by, besides words of queues and tables. Where the queues lie is not told here.
 pub struct State {
-    pub queues: Queues,
+    pub caps: Counts,
+    pub levels: Counts,
     pub regs: Regs,
     pub control: Control,
     pub phase: Phase,
@@ -84,6 +95,7 @@ pub struct State {
 // interrupt, bit 2 sends a data byte), the offload commands and the offload data words.
 pub struct Bank {
     pub state: State,
+    pub heads: Heads,
     pub flags: [u8; 128],
     pub commands: [u32; 16],
     pub payloads: [u32; 16],
@@ -110,11 +122,22 @@ pub struct SetUp {
     pub answer: Answer,
 }
 
-// Whether a capacity and its watermark are in range.
-pub fn size_ok(least: u32, cap: u32, mark: u32) -> bool
-    ensures { λ b. ⌜ b ≡ sizeOk least cap mark ⌝ }
+// Whether a capacity is in range.
+pub fn size_ok(least: u32, cap: u32) -> bool
+    ensures { λ b. ⌜ b ≡ sizeOk least cap ⌝ }
 {
-    (least <= cap) & (cap <= 1024) & (mark <= cap)
+    (least <= cap) & (cap <= 1024)
+}
+
+// Whether each watermark is at most its queue's capacity.
+pub fn marks_ok(marks: Counts, caps: Counts) -> bool
+    ensures { λ b. ⌜ b ≡ marksOk marks caps ⌝ }
+{
+    (marks.cmd.0 <= caps.cmd.0)
+        & (marks.cmdr.0 <= caps.cmdr.0)
+        & (marks.sdo.0 <= caps.sdo.0)
+        & (marks.sdi.0 <= caps.sdi.0)
+        & (marks.ibi.0 <= caps.ibi.0)
 }
 
 // A control with its syncs and pending bits 0 and no burst open.
@@ -146,15 +169,87 @@ fn sum_of_five(a: u32, b: u32, c: u32, d: u32, e: u32) -> usize
     a as usize + b as usize + c as usize + d as usize + e as usize
 }
 
-// The length of the store that five queues need.
-pub fn total_of(q: Queues) -> usize
-    ensures { λ n. ⌜ n ≡ total q ⌝ }
+// The length of the store that five queues of these capacities need.
+pub fn total_of(k: Counts) -> usize
+    ensures { λ n. ⌜ n ≡ total k ⌝ }
 {
-    sum_of_five(
-        q.cmd.cap.0,
-        q.cmdr.cap.0,
-        q.sdo.cap.0,
-        q.sdi.cap.0,
-        q.ibi.cap.0,
-    )
+    sum_of_five(k.cmd.0, k.cmdr.0, k.sdo.0, k.sdi.0, k.ibi.0)
+}
+
+// The parts of a state put together field by field: fields that are copied in one piece stay in memory through a list of
+// calls, stored apart and loaded together, which stalls.
+pub fn counts_by_field(f: Counts) -> Counts
+    ensures { λ r. ⌜ r ≡ f ⌝ }
+{
+    Counts {
+        cmd: Words(f.cmd.0),
+        cmdr: Words(f.cmdr.0),
+        sdo: Words(f.sdo.0),
+        sdi: Words(f.sdi.0),
+        ibi: Words(f.ibi.0),
+    }
+}
+
+pub fn heads_by_field(h: Heads) -> Heads
+    ensures { λ r. ⌜ r ≡ h ⌝ }
+{
+    Heads {
+        cmd: h.cmd,
+        cmdr: h.cmdr,
+        sdo: h.sdo,
+        sdi: h.sdi,
+        ibi: h.ibi,
+    }
+}
+
+fn regs_by_field(g: Regs) -> Regs
+    ensures { λ r. ⌜ r ≡ g ⌝ }
+{
+    let marks = counts_by_field(g.marks);
+    Regs {
+        id: g.id,
+        scratch: g.scratch,
+        mask: g.mask,
+        ops: g.ops,
+        config: g.config,
+        selected: g.selected,
+        marks: marks,
+    }
+}
+
+fn control_by_field(c: Control) -> Control
+    ensures { λ r. ⌜ r ≡ c ⌝ }
+{
+    Control {
+        held: c.held,
+        sync: c.sync,
+        ibisync: c.ibisync,
+        cmdrpending: c.cmdrpending,
+        ibipending: c.ibipending,
+        daapending: c.daapending,
+        burst: c.burst,
+    }
+}
+
+pub fn state_with(caps: Counts, levels: Counts, g: Regs, c: Control, p: Phase) -> State
+    ensures { λ r. ⌜ r ≡ record { caps = caps; levels = levels; regs = g; control = c; phase = p } ⌝ }
+{
+    let k = counts_by_field(caps);
+    let l = counts_by_field(levels);
+    let regs = regs_by_field(g);
+    let control = control_by_field(c);
+    State {
+        caps: k,
+        levels: l,
+        regs: regs,
+        control: control,
+        phase: p,
+    }
+}
+
+// The free places of a queue.
+pub fn room(cap: u32, level: u32) -> u32
+    ensures { λ n. ⌜ n ≡ cap - level ⌝ }
+{
+    if level <= cap { cap - level } else { 0 }
 }

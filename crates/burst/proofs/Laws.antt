@@ -2,62 +2,64 @@
 use Prim.Native.Nat.{ℕ, _+_, _-_, _*_, _/_, _%_, _^_, _<_, _≤_}
 use native.Mathlib.Nat.{mod-eq-of-lt}
 use native.Mathlib.Omega.{arith}
-use mathlib.Core.Path.{_≡_, refl, ap, sym, _∙_}
-use mathlib.Core.Bool.{Bool, true, false, cond, not, _&&_, _||_, false≢true}
-use mathlib.Core.List.{List}
+use mathlib.Core.Path.{_≡_, refl, ap, _∙_}
+use mathlib.Core.Bool.{Bool, true, false, cond}
+use mathlib.Core.List.{List, []}
 use lib.Dec.{eqb, leb, ltb}
-use lib.ListN.{length, getD, set}
+use lib.ListN.{length, replicate, set}
 use borrow.Author.Tests.{leb-true, leb-false, eqb-true, eqb-false, not-true, not-false}
-use Rattle.bank.specs.declared.Regs.{Regs}
-use Rattle.bank.specs.declared.Control.{Control}
 use Rattle.bank.specs.declared.State.{State}
-use Rattle.bank.specs.declared.Phase.{Phase}
-use Rattle.bank.specs.declared.Phase.the-variants.{Idle, Writing, Reading}
-use Rattle.bank.specs.Bits.{bit, bits}
-use Rattle.bank.specs.Phases.{reading, transfer, broadcast, limit}
-use Rattle.bank.specs.Bursts.{span, readsIn, writesIn, bursting, place, gatheredBytes}
+use Rattle.bank.specs.declared.Phase.the-variants.{Writing, Reading}
+use Rattle.bank.specs.Phases.{reading, transfer, limit}
+use Rattle.bank.specs.Bursts.{span, readsIn, bursting, gatheredBytes}
 use Rattle.bank.specs.Formed.{openOk}
 use Rattle.bank.proofs.Bools.{three}
-use Rattle.model.specs.View.{Tables, View}
-use Rattle.model.specs.Decision.{Decision, _⇒_∣_}
-use Rattle.model.specs.Commands.{Single, kindOf, begun}
+use Rattle.model.specs.View.{Tables, tables, View}
+use Rattle.model.specs.Decision.{Effect, unchanged, _withValue_, _withPhase_, _⇒_∣_}
 use Rattle.model.specs.Calls.{advanced}
-use Rattle.model.specs.Bursts.{standing, short, trigger, burstSend, burstReceive, burstFinish}
-use Rattle.model.specs.Rings.{onRing, onStore}
+use Rattle.model.specs.Bursts.{short, dataWord, burstSend, burstReceive}
 use Rattle.model.proofs.Open.{BurstOk, burst-of, burst-parts, at-most-four}
-use Rattle.answer.specs.Given.{view, number, given, doneNext, decided, tables}
-use Rattle.answer.proofs.Laws.{cleared, served-by}
+use Rattle.effect.specs.declared.Table.the-variants.{Output}
+use Rattle.effect.specs.Effects.{number, tablesBy, verdict}
+use Rattle.effect.specs.Seen.{Fronts, seen}
+use Rattle.effect.proofs.Laws.{cleared, served-as}
 
 -- ── The place of a burst ──────────────────────────────────────────────────────────────────────────────────────
-module _ (c : Control) (g : Regs) (p : Phase) (ws : List ℕ) (e : bursting c ≡ true) (h : openOk c g p ws ≡ true) where
-  parts : BurstOk c g p ws
-  parts = burst-parts c g p ws (burst-of c g p ws e h)
+module _ (st : State) (ws : List ℕ) (e : bursting (st .control) ≡ true) (h : openOk (st .control) (st .regs) (st .phase) ws ≡ true) where
+  parts : BurstOk (st .control) (st .regs) (st .phase) ws
+  parts = burst-parts (st .control) (st .regs) (st .phase) ws (burst-of (st .control) (st .regs) (st .phase) ws e h)
 
-  pub at-most-fifteen : (c .burst ≤ 15) × (1 ≤ c .burst)
+  pub at-most-fifteen : (st .control .burst ≤ 15) × (1 ≤ st .control .burst)
   at-most-fifteen =
-      let l = leb-true (c .burst) (span g) (parts .stands) in
-      let m : g .ops / 2 % 16 < 16 = omega arith in
-      let d = eqb-false (c .burst) 0 (not-true (eqb (c .burst) 0) e) in
+      let n = st .control .burst in
+      let l = leb-true n (span (st .regs)) (parts .stands) in
+      let m : st .regs .ops / 2 % 16 < 16 = omega arith in
+      let d = eqb-false n 0 (not-true (eqb n 0) e) in
       (omega arith, omega arith)
 
-  pub below-four : leb (transfer p .length .0) (transfer p .moved .0) ≡ false → transfer p .moved .0 < 4
-  below-four l =
-      let f = at-most-four c g p ws e parts in
-      let d = leb-false (transfer p .length .0) (transfer p .moved .0) l in
-      omega arith
+  module _ (l : leb (transfer (st .phase) .length .0) (transfer (st .phase) .moved .0) ≡ false) where
+    pub below-four : transfer (st .phase) .moved .0 < 4
+    below-four =
+        let t = transfer (st .phase) in
+        let f = at-most-four (st .control) (st .regs) (st .phase) ws e parts in
+        let d = leb-false (t .length .0) (t .moved .0) l in
+        omega arith
 
-  -- the bytes gathered stand at the top of the part word
-  pub gathered-part : reading p ≡ true → leb (transfer p .length .0) (transfer p .moved .0) ≡ false → transfer p .part % 2 ^ (32 - 8 * (transfer p .moved .0 % 4)) ≡ 0
-  gathered-part r l =
-      let t = transfer p in
-      let z = three (ltb (t .length .0) 4096) (leb (t .moved .0) (limit p)) (eqb (t .part % 2 ^ (32 - 8 * gatheredBytes p)) 0) (parts .counts) in
-      let m = mod-eq-of-lt (below-four l) in
-      rw m (eqb-true (t .part % 2 ^ (32 - 8 * t .moved .0)) 0 (rw r at z .2))
+    -- the bytes gathered stand at the top of the part word
+    pub gathered-part : reading (st .phase) ≡ true → transfer (st .phase) .part % 2 ^ (32 - 8 * (transfer (st .phase) .moved .0 % 4)) ≡ 0
+    gathered-part r =
+        let t = transfer (st .phase) in
+        let z = three (ltb (t .length .0) 4096) (leb (t .moved .0) (limit (st .phase))) (eqb (t .part % 2 ^ (32 - 8 * gatheredBytes (st .phase))) 0) (parts .counts) in
+        rw (mod-eq-of-lt below-four) (eqb-true (t .part % 2 ^ (32 - 8 * t .moved .0)) 0 (rw r at z .2))
 
 -- ── Tests ─────────────────────────────────────────────────────────────────────────────────────────────────────
-pub short-is : (st : State) (f ws p o s : List ℕ) (len : ℕ) → bursting (st .control) ≡ true → length o ≡ len → ltb len (readsIn (span (st .regs)) ws) ≡ short (view st (tables f ws p o) s)
+pub short-is : (st : State) (a ws p o : List ℕ) (f : Fronts) (len : ℕ) → bursting (st .control) ≡ true → length o ≡ len → ltb len (readsIn (span (st .regs)) ws) ≡ short (seen st (tables a ws p o) f)
 unfolding short
-short-is st f ws p o s len e h = rw (e, h)
+short-is st a ws p o f len e h = rw (e, h)
+
+-- tables with the offload commands, and an output of so many words
+abbrev pub lent : List ℕ → ℕ → Tables
+lent ws len = tables [] ws [] (replicate len 0)
 
 pub sends : (s : View) → number (short s ⇒ 13 ∣ burstSend s) ≡ 0 → leb (transfer (s .phase) .length .0) (transfer (s .phase) .moved .0) ≡ false
 unfolding burstSend
@@ -69,38 +71,25 @@ receives s byte e =
     let p = cleared (short s ⇒ 13 ∣ burstReceive s byte) refl e in
     (not-false (reading (s .phase)) (p .1 .1 .1 .1 .0), p .1 .1 .1 .1 .1 .0)
 
--- ── What the events do ────────────────────────────────────────────────────────────────────────────────────────
-module _ (st : State) (t : Tables) (s : List ℕ) where
-  pub sent : transfer (st .phase) .moved .0 < 4 → number (short (view st t s) ⇒ 13 ∣ burstSend (view st t s)) ≡ 0
-      → let x = transfer (st .phase) in
-      let w = getD (t .payloads) (writesIn (place (st .control)) (t .commands)) 0 in
-      given (doneNext (st .queues) (st .regs) (st .control) (Writing (advanced x 0)) (w / 2 ^ (24 - 8 * (x .moved .0 % 4)) % 256) 0) t s ≡ decided st t s (short (view st t s) ⇒ 13 ∣ burstSend (view st t s))
-  unfolding burstSend onRing onStore
-  sent l e =
-      let x = transfer (st .phase) in
-      let w = getD (t .payloads) (writesIn (place (st .control)) (t .commands)) 0 in
-      ap (λ (m : ℕ). given (doneNext (st .queues) (st .regs) (st .control) (Writing (advanced x 0)) (w / 2 ^ (24 - 8 * m) % 256) 0) t s) (mod-eq-of-lt l) ∙ served-by st t s (short (view st t s) ⇒ 13 ∣ burstSend (view st t s)) refl e
+-- ── What the events do: fewer than four bytes have moved ──────────────────────────────────────────────────────
+module _ (s : View) where
+  -- by the place of the byte in its word
+  abbrev sending : ℕ → Effect
+  sending m = unchanged s withValue dataWord s / 2 ^ (24 - 8 * m) % 256 withPhase Writing (advanced (transfer (s .phase)) 0)
 
-  pub received : (byte : ℕ) → transfer (st .phase) .moved .0 < 4 → number (short (view st t s) ⇒ 13 ∣ burstReceive (view st t s) byte) ≡ 0
-      → let x = transfer (st .phase) in
-      given (doneNext (st .queues) (st .regs) (st .control) (Reading (advanced x (x .part + byte * 2 ^ (24 - 8 * (x .moved .0 % 4))))) 0 0) t s ≡ decided st t s (short (view st t s) ⇒ 13 ∣ burstReceive (view st t s) byte)
-  unfolding burstReceive onRing onStore
-  received byte l e =
-      let x = transfer (st .phase) in
-      ap (λ (m : ℕ). given (doneNext (st .queues) (st .regs) (st .control) (Reading (advanced x (x .part + byte * 2 ^ (24 - 8 * m)))) 0 0) t s) (mod-eq-of-lt l) ∙ served-by st t s (short (view st t s) ⇒ 13 ∣ burstReceive (view st t s) byte) refl e
+  pub sent : transfer (s .phase) .moved .0 < 4 → number (short s ⇒ 13 ∣ burstSend s) ≡ 0 → sending (transfer (s .phase) .moved .0 % 4) ≡ verdict (λ v. short v ⇒ 13 ∣ burstSend v) s
+  unfolding burstSend
+  sent l e = ap sending (mod-eq-of-lt l) ∙ served-as (λ v. short v ⇒ 13 ∣ burstSend v) s refl e
 
-  pub triggered : number (trigger (view st t s)) ≡ 0
-      → let w = getD (t .commands) 0 0 in
-      given (doneNext (st .queues) (st .regs) (standing 1 (st .control)) (begun (Single w) (broadcast (kindOf (Single w)) || bit 0 (getD (t .flags) (bits 7 1 w) 0))) 0 0) t s ≡ decided st t s (trigger (view st t s))
-  unfolding trigger onRing onStore
-  triggered e = served-by st t s (trigger (view st t s)) refl e
+  abbrev receiving : ℕ → ℕ → Effect
+  receiving byte m = let t = transfer (s .phase) in unchanged s withPhase Reading (advanced t (t .part + byte * 2 ^ (24 - 8 * m)))
 
-  pub finished : (code : ℕ) → number (short (view st t s) ⇒ 13 ∣ burstFinish (view st t s) code) ≡ 0
-      → let n = st .control .burst in
-      let z = leb (span (st .regs)) n in
-      let w = getD (t .commands) n 0 in
-      let x = transfer (st .phase) in
-      given (doneNext (st .queues) (st .regs) (standing (cond z 0 (n + 1)) (st .control)) (cond z Idle (begun (Single w) (broadcast (kindOf (Single w)) || bit 0 (getD (t .flags) (bits 7 1 w) 0)))) 0 0)
-      (tables (t .flags) (t .commands) (t .payloads) (cond (reading (st .phase)) (set (t .output) (readsIn (n - 1) (t .commands)) (x .part)) (t .output))) s ≡ decided st t s (short (view st t s) ⇒ 13 ∣ burstFinish (view st t s) code)
-  unfolding burstFinish onRing onStore
-  finished code e = served-by st t s (short (view st t s) ⇒ 13 ∣ burstFinish (view st t s) code) refl e
+  pub received : (byte : ℕ) → transfer (s .phase) .moved .0 < 4 → number (short s ⇒ 13 ∣ burstReceive s byte) ≡ 0 → receiving byte (transfer (s .phase) .moved .0 % 4) ≡ verdict (λ v. short v ⇒ 13 ∣ burstReceive v byte) s
+  unfolding burstReceive
+  received byte l e = ap (receiving byte) (mod-eq-of-lt l) ∙ served-as (λ v. short v ⇒ 13 ∣ burstReceive v byte) s refl e
+
+-- a word of the output, where it comes
+pub output-if : (b : Bool) (i w : ℕ) (t : Tables) → cond b (tablesBy (Output i w) t) t ≡ tables (t .flags) (t .commands) (t .payloads) (cond b (set (t .output) i w) (t .output))
+unfolding tablesBy
+output-if true i w t = refl
+output-if false i w t = refl

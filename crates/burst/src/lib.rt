@@ -1,44 +1,35 @@
-// Offload bursts, behind the two tests of bank and store: the trigger, and 01's events in an open burst. A layer, no
-// interface. No queue is touched.
+// Offload bursts, as decisions: the trigger, and 01's events in an open burst. No queue is touched.
 ghost use mathlib.Core.Path.{_≡_};
-ghost use mathlib.Core.Bool.{true, cond, _&&_, _||_};
+ghost use mathlib.Core.Bool.{true, cond, _||_};
 ghost use mathlib.Core.List.{List};
 ghost use Prim.Native.Nat.{ℕ, _+_, _-_, _≤_};
 ghost use lib.Dec.{ltb};
-ghost use lib.ListN.{length, getD, set};
+ghost use lib.ListN.{length, getD};
 ghost use Rattle.bank.specs.declared.Phase.the-variants.{Idle};
 ghost use Rattle.bank.specs.Bits.{bit, bits};
 ghost use Rattle.bank.specs.Phases.{broadcast};
 ghost use Rattle.bank.specs.Bursts.{span, readsIn, writesIn, bursting, place};
 ghost use Rattle.bank.specs.Formed.{openOk};
-ghost use Rattle.model.specs.View.{Tables};
 ghost use Rattle.model.specs.Decision.{_⇒_∣_};
 ghost use Rattle.model.specs.Commands.{Single, kindOf, begun};
 ghost use Rattle.model.specs.Bursts.{standing, short, trigger, burstSend, burstReceive, burstFinish};
-ghost use Rattle.answer.specs.Given.{view, number, given, decided, tables};
-use answer::Next;
+ghost use Rattle.model.specs.View.{tables};
+ghost use Rattle.effect.specs.Effects.{effectOf, verdict, number};
+ghost use Rattle.effect.specs.Seen.{Fronts, seen};
 use bank::Control;
 use bank::Phase;
 use bank::Regs;
 use bank::State;
 use bank::bursts;
 use bank::phases;
+use effect::Effect;
+use effect::Table;
 
 // Whether an output of so many words is shorter than the reads.
-fn is_lacking(g: Regs, commands: &[u32; 16], len: usize) -> bool
+pub fn is_lacking(g: Regs, commands: &[u32; 16], len: usize) -> bool
     ensures { λ b. ⌜ b ≡ ltb len (readsIn (span g) (now (commands .entry))) ⌝ }
 {
     len < bursts::reads_in(commands, bursts::span_of(g))
-}
-
-// Whether a burst is open and the output is too short for it. Outside a burst nothing is counted.
-pub fn is_short(c: Control, g: Regs, commands: &[u32; 16], len: usize) -> bool
-    ensures { λ b. ⌜ b ≡ (bursting c && ltb len (readsIn (span g) (now (commands .entry)))) ⌝ }
-{
-    if !bursts::is_bursting(c) {
-        return false;
-    }
-    is_lacking(g, commands, len)
 }
 
 // The burst stands at another command, or at none.
@@ -54,7 +45,7 @@ fn stand(c: Control, n: u8) -> Control
 
 // The number of a trigger, 0 where none of its tests holds.
 fn trigger_number(st: State, commands: &[u32; 16], len: usize) -> u32
-    ensures { λ n. ⌜ ((f p s o : List ℕ) → length o ≡ len → n ≡ number (trigger (view st (tables f (now (commands .entry)) p o) s))) ⌝ }
+    ensures { λ n. ⌜ ((a p o : List ℕ) (f : Fronts) → length o ≡ len → n ≡ number (trigger (seen st (tables a (now (commands .entry)) p o) f))) ⌝ }
 {
     let p = st.phase;
     let at = phases::stage_of(p);
@@ -69,19 +60,20 @@ fn trigger_number(st: State, commands: &[u32; 16], len: usize) -> u32
 }
 
 // A burst begins with the transfer of its first command.
-pub fn trigger(st: State, flags: &[u8; 128], commands: &[u32; 16], len: usize) -> Next
-    ensures { λ y. ⌜ ((p s o : List ℕ) → length o ≡ len → (let t = tables (now (flags .entry)) (now (commands .entry)) p o in given y t s ≡ decided st t s (trigger (view st t s)))) ⌝ }
+pub fn trigger(st: State, flags: &[u8; 128], commands: &[u32; 16], len: usize) -> Effect
+    ensures { λ e. ⌜ ((p o : List ℕ) (f : Fronts) → length o ≡ len → (let t = tables (now (flags .entry)) (now (commands .entry)) p o in effectOf e t ≡ verdict trigger (seen st t f))) ⌝ }
 {
     let n = trigger_number(st, commands, len);
     if n != 0 {
-        return answer::refuse(st, n);
+        return effect::refuse(st, n);
     }
     let w = commands[0];
-    let p = transfer::private_phase(flags, w);
-    let q = st.queues;
+    let at = (w / 2 % 128) as usize;
+    let p = transfer::private_phase(w, flags[at]);
     let g = st.regs;
     let c = stand(st.control, 1);
-    answer::done(q, g, c, p, 0, 0)
+    let o = effect::none();
+    effect::done(st, 0, 0, g, c, p, o)
 }
 
 // ── Bytes ──────────────────────────────────────────────────────────────────────────────────────────────────────
@@ -102,58 +94,58 @@ fn data_word(c: Control, commands: &[u32; 16], payloads: &[u32; 16]) -> u32
 // The number of a byte sent, 0 where none of its tests holds.
 fn send_number(st: State, commands: &[u32; 16], len: usize) -> u32
     requires { ⌜ bursting (st .control) ≡ true ⌝ }
-    ensures { λ n. ⌜ ((f p s o : List ℕ) → length o ≡ len → (let v = view st (tables f (now (commands .entry)) p o) s in n ≡ number (short v ⇒ 13 ∣ burstSend v))) ⌝ }
+    ensures { λ n. ⌜ ((a p o : List ℕ) (f : Fronts) → length o ≡ len → (let v = seen st (tables a (now (commands .entry)) p o) f in n ≡ number (short v ⇒ 13 ∣ burstSend v))) ⌝ }
 {
     let n = payload::byte_number(st, phases::WRITING, 0);
     bank::select(is_lacking(st.regs, commands, len), 13, n)
 }
 
 // A byte sent: of the offload data word, as many places from its top as bytes have moved.
-pub fn send(st: State, commands: &[u32; 16], payloads: &[u32; 16], len: usize) -> Next
+pub fn send(st: State, commands: &[u32; 16], payloads: &[u32; 16], len: usize) -> Effect
     requires { ⌜ (bursting (st .control) ≡ true) × (openOk (st .control) (st .regs) (st .phase) (now commands) ≡ true) ⌝ }
-    ensures { λ y. ⌜ ((f s o : List ℕ) → length o ≡ len → (let t = tables f (now (commands .entry)) (now (payloads .entry)) o in given y t s ≡ decided st t s (short (view st t s) ⇒ 13 ∣ burstSend (view st t s)))) ⌝ }
+    ensures { λ e. ⌜ ((a o : List ℕ) (f : Fronts) → length o ≡ len → (let t = tables a (now (commands .entry)) (now (payloads .entry)) o in effectOf e t ≡ verdict (λ v. short v ⇒ 13 ∣ burstSend v) (seen st t f))) ⌝ }
 {
     let n = send_number(st, commands, len);
     if n != 0 {
-        return answer::refuse(st, n);
+        return effect::refuse(st, n);
     }
     let p = st.phase;
     let t = phases::transfer_of(p);
     let w = data_word(st.control, commands, payloads);
     let byte = w / payload::weight(t.moved.0) % 256;
     let next = payload::advance(t, 0);
-    let q = st.queues;
     let g = st.regs;
     let c = st.control;
-    answer::done(q, g, c, Phase::Writing(next), byte, 0)
+    let o = effect::none();
+    effect::done(st, byte, 0, g, c, Phase::Writing(next), o)
 }
 
 // The number of a byte received, 0 where none of its tests holds.
 fn receive_number(st: State, commands: &[u32; 16], len: usize) -> u32
     requires { ⌜ bursting (st .control) ≡ true ⌝ }
-    ensures { λ n. ⌜ ((f p s o : List ℕ) (byte : ℕ) → length o ≡ len → (let v = view st (tables f (now (commands .entry)) p o) s in n ≡ number (short v ⇒ 13 ∣ burstReceive v byte))) ⌝ }
+    ensures { λ n. ⌜ ((a p o : List ℕ) (f : Fronts) (byte : ℕ) → length o ≡ len → (let v = seen st (tables a (now (commands .entry)) p o) f in n ≡ number (short v ⇒ 13 ∣ burstReceive v byte))) ⌝ }
 {
     let n = payload::byte_number(st, phases::READING, 0);
     bank::select(is_lacking(st.regs, commands, len), 13, n)
 }
 
 // A byte received: it stays in the part word until the finish.
-pub fn receive(st: State, commands: &[u32; 16], len: usize, byte: u8) -> Next
+pub fn receive(st: State, commands: &[u32; 16], len: usize, byte: u8) -> Effect
     requires { ⌜ (bursting (st .control) ≡ true) × (openOk (st .control) (st .regs) (st .phase) (now commands) ≡ true) ⌝ }
-    ensures { λ y. ⌜ ((f p s o : List ℕ) → length o ≡ len → (let t = tables f (now (commands .entry)) p o in given y t s ≡ decided st t s (short (view st t s) ⇒ 13 ∣ burstReceive (view st t s) byte))) ⌝ }
+    ensures { λ e. ⌜ ((a p o : List ℕ) (f : Fronts) → length o ≡ len → (let t = tables a (now (commands .entry)) p o in effectOf e t ≡ verdict (λ v. short v ⇒ 13 ∣ burstReceive v byte) (seen st t f))) ⌝ }
 {
     let n = receive_number(st, commands, len);
     if n != 0 {
-        return answer::refuse(st, n);
+        return effect::refuse(st, n);
     }
     let p = st.phase;
     let t = phases::transfer_of(p);
     let w = payload::gathered(t.part, t.moved.0, byte);
     let next = payload::advance(t, w);
-    let q = st.queues;
     let g = st.regs;
     let c = st.control;
-    answer::done(q, g, c, Phase::Reading(next), 0, 0)
+    let o = effect::none();
+    effect::done(st, 0, 0, g, c, Phase::Reading(next), o)
 }
 
 // ── Finish ─────────────────────────────────────────────────────────────────────────────────────────────────────
@@ -161,7 +153,7 @@ pub fn receive(st: State, commands: &[u32; 16], len: usize, byte: u8) -> Next
 // The number of a finish, 0 where none of its tests holds.
 fn finish_number(st: State, commands: &[u32; 16], len: usize, code: u8) -> u32
     requires { ⌜ bursting (st .control) ≡ true ⌝ }
-    ensures { λ n. ⌜ ((f p s o : List ℕ) → length o ≡ len → (let v = view st (tables f (now (commands .entry)) p o) s in n ≡ number (short v ⇒ 13 ∣ burstFinish v code))) ⌝ }
+    ensures { λ n. ⌜ ((a p o : List ℕ) (f : Fronts) → length o ≡ len → (let v = seen st (tables a (now (commands .entry)) p o) f in n ≡ number (short v ⇒ 13 ∣ burstFinish v code))) ⌝ }
 {
     let p = st.phase;
     let at = phases::stage_of(p);
@@ -170,15 +162,6 @@ fn finish_number(st: State, commands: &[u32; 16], len: usize, code: u8) -> u32
     let n = bank::select(at == phases::IDLE, 7, n);
     let n = bank::select(st.control.held, 5, n);
     bank::select(is_lacking(st.regs, commands, len), 13, n)
-}
-
-// One word of the output, where it comes. A place past the end stores nothing, so no caller has to bound it.
-fn deliver(output: &mut [u32], comes: bool, at: usize, w: u32)
-    ensures { λ _. ⌜ now (output .exit) ≡ cond comes (set (now (output .entry)) at w) (now (output .entry)) ⌝ }
-{
-    if comes & (at < output.len()) {
-        output[at] = w;
-    }
 }
 
 // Where the burst stands after the transfer of command number `n`, counted from 1.
@@ -196,34 +179,30 @@ fn next_phase(last: bool, flags: &[u8; 128], w: u32) -> Phase
     if last {
         return Phase::Idle;
     }
-    transfer::private_phase(flags, w)
+    let at = (w / 2 % 128) as usize;
+    transfer::private_phase(w, flags[at])
 }
 
 // The open transfer ends with a code: the word of a read goes to the output, and the next transfer opens.
-pub fn finish(
-    st: State,
-    flags: &[u8; 128],
-    commands: &[u32; 16],
-    output: &mut [u32],
-    code: u8,
-) -> Next
+pub fn finish(st: State, flags: &[u8; 128], commands: &[u32; 16], len: usize, code: u8) -> Effect
     requires { ⌜ (bursting (st .control) ≡ true) × (openOk (st .control) (st .regs) (st .phase) (now commands) ≡ true) ⌝ }
-    ensures { λ y. ⌜ ((p s : List ℕ) → (let t = tables (now (flags .entry)) (now (commands .entry)) p (now (output .entry)) in given y (tables (now (flags .entry)) (now (commands .entry)) p (now (output .exit))) s ≡ decided st t s (short (view st t s) ⇒ 13 ∣ burstFinish (view st t s) code))) ⌝ }
+    ensures { λ e. ⌜ ((p o : List ℕ) (f : Fronts) → length o ≡ len → (let t = tables (now (flags .entry)) (now (commands .entry)) p o in effectOf e t ≡ verdict (λ v. short v ⇒ 13 ∣ burstFinish v code) (seen st t f))) ⌝ }
 {
-    let n = finish_number(st, commands, output.len(), code);
+    let n = finish_number(st, commands, len, code);
     if n != 0 {
-        return answer::refuse(st, n);
+        return effect::refuse(st, n);
     }
     let p = st.phase;
     let t = phases::transfer_of(p);
     let reads = phases::stage_of(p) == phases::READING;
     let k = st.control.burst as usize;
-    deliver(output, reads, bursts::reads_in(commands, k - 1), t.part);
+    let place = bursts::reads_in(commands, k - 1) as u32;
     let last = bursts::span_of(st.regs) <= k;
     let w = commands[k];
     let next = next_phase(last, flags, w);
-    let q = st.queues;
     let g = st.regs;
     let c = stand(st.control, after(last, st.control.burst));
-    answer::done(q, g, c, next, 0, 0)
+    let o = effect::none();
+    let d = effect::table_if(reads, Table::Output(place, t.part));
+    effect::done_with(st, 0, 0, g, c, next, o, d)
 }

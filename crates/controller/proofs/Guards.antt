@@ -1,4 +1,4 @@
--- The two tests of bank and store, as every call of the interface uses them: refused, or open.
+-- Past the two tests of bank and store: the rings are valid, and the step is the decision.
 use Prim.Native.Nat.{ℕ}
 use mathlib.Core.Path.{_≡_}
 use mathlib.Core.List.{List}
@@ -14,20 +14,15 @@ use Rattle.model.specs.Bursts.{decide}
 use Rattle.model.specs.Engine.{step}
 use Rattle.model.specs.Rings.{rings}
 use Rattle.faults.specs.Faults.{faultNumber}
-use Rattle.faults.proofs.Guards.{both, refuses, passes}
-use Rattle.answer.specs.Given.{controller, tablesOf, view, givenOut, decided, OpenWith}
-use Rattle.controller.specs.Outs.{refusedOut}
+use Rattle.faults.proofs.Guards.{both, passes}
+use Rattle.answer.specs.Given.{controller, tablesOf, view, decided, Open}
 
-module _ (b : Bank) (s o : List ℕ) (c : Call) where
-  pub faulty : (n : ℕ) → (n ≡ 0 → ⊥) → n ≡ faultNumber b (length s) → givenOut (refusedOut b n) s o ≡ step rings (controller b s o) c
-  faulty n z e = refuses (controller b s o) c n z e
+pub sound : (b : Bank) (s o : List ℕ) (c : Call) → faultNumber b (length s) ≡ 0 → (let t = tablesOf b o in decided (b .state) (b .heads) t s (decide (view (b .state) (b .heads) t s) c) ≡ step rings (controller b s o) c)
+unfolding decided
+sound b s o c e = passes (controller b s o) c e
 
-  pub sound : faultNumber b (length s) ≡ 0 → decided (b .state) (tablesOf b o) s (decide (view (b .state) (tablesOf b o) s) c) ≡ step rings (controller b s o) c
-  unfolding decided
-  sound e = passes (controller b s o) c e
-
-pub opens : (b : Bank) (s : List ℕ) → faultNumber b (length s) ≡ 0 → OpenWith (b .state) (b .commands) s
+pub opens : (b : Bank) (s : List ℕ) → faultNumber b (length s) ≡ 0 → Open (b .state) (b .heads) (b .commands) s
 opens b s e =
-    let t = both (wellFormed b) (eqb (length s) (total (b .state .queues))) e in
+    let t = both (wellFormed b) (eqb (length s) (total (b .state .caps))) e in
     let f = formed-of b (t .0) in
-    record { bank = record { queues = f .queues; regs = f .regs; size = eqb-true (length s) (total (b .state .queues)) (t .1) }; phase = f .phase }
+    record { queues = f .queues; size = eqb-true (length s) (total (b .state .caps)) (t .1); phase = f .phase }

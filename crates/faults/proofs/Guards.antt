@@ -31,7 +31,7 @@ both false b e = absurd (omega arith)
 
 module _ (l : Controller) (c : Call) where
   abbrev fits : Bool
-  fits = eqb (length (l .store)) (total (l .bank .state .queues))
+  fits = eqb (length (l .store)) (total (l .bank .state .caps))
 
   -- the two tests refuse
   pub refuses : (n : ℕ) → (n ≡ 0 → ⊥) → n ≡ faultNumber (l .bank) (length (l .store)) → record { answer = record { value = 0; number = n }; next = l } ≡ step rings l c
@@ -55,6 +55,6 @@ module _ (l : Controller) (c : Call) where
       go : (n : ℕ) → faultNumber (l .bank) (length (l .store)) ≡ n → faultNumber (m .bank) (length (m .store)) ≡ faultNumber (l .bank) (length (l .store))
       go zero e =
           let t = both (wellFormed (l .bank)) fits e in
-          let n = stays-sound l (listed l) c (record { is = refl; formed = formed-of (l .bank) (t .0); size = eqb-true (length (l .store)) (total (l .bank .state .queues)) (t .1) }) in
-          rw (formed-is (m .bank) (n .formed), eq-eqb (length (m .store)) (total (m .bank .state .queues)) (n .size)) (sym e)
+          let n = stays-sound l (listed l) c (record { is = refl; formed = formed-of (l .bank) (t .0); size = eqb-true (length (l .store)) (total (l .bank .state .caps)) (t .1) }) in
+          rw (formed-is (m .bank) (n .formed), eq-eqb (length (m .store)) (total (m .bank .state .caps)) (n .size)) (sym e)
       go (suc n) e = ap (λ (r : Step Controller). faultNumber (r .next .bank) (length (r .next .store))) (sym (refuses (suc n) (λ z. omega arith) (sym e)))

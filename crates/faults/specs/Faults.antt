@@ -10,4 +10,4 @@ abbrev pub faultBy : Bool → Bool → ℕ
 faultBy formed sized = cond (not formed) 21 (cond (not sized) 22 0)
 
 abbrev pub faultNumber : Bank → ℕ → ℕ
-faultNumber b len = faultBy (wellFormed b) (eqb len (total (b .state .queues)))
+faultNumber b len = faultBy (wellFormed b) (eqb len (total (b .state .caps)))

@@ -8,7 +8,7 @@ pub fn fault(b: Bank, len: usize) -> u32
     ensures { λ r. ⌜ r ≡ faultNumber b len ⌝ }
 {
     let ok = formed::well_formed(b);
-    let total = bank::total_of(b.state.queues);
+    let total = bank::total_of(b.state.caps);
     let n = bank::select(!(len == total), 22, 0);
     bank::select(!ok, 21, n)
 }

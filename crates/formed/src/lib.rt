@@ -25,9 +25,9 @@ pub fn well_formed(b: Bank) -> bool
     let f = b.flags;
     let w = b.commands;
     let p = s.phase;
-    formed_ranges::queues_ok(s.queues)
-        & formed_ranges::regs_ok(s.regs)
+    formed_ranges::queues_ok(s.caps, s.levels, b.heads)
+        & (formed_ranges::regs_ok(s.regs) & bank::marks_ok(s.regs.marks, s.caps))
         & open_ok(s.control, s.regs, p, &w)
-        & formed_reset::reset_ok(s.control, p, s.queues)
+        & formed_reset::reset_ok(s.control, p, s.levels, b.heads)
         & formed_ranges::flags_ok(f)
 }

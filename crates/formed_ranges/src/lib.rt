@@ -1,24 +1,26 @@
 // Whether rings, registers and device flags are in range.
 ghost use mathlib.Core.Path.{_≡_};
+ghost use Rattle.bank.specs.Queues.{ring, queuesOf};
 ghost use Rattle.bank.specs.Formed.{ringOk, queuesOk, regsOk, flagsOk};
-use bank::Queues;
+use bank::Counts;
+use bank::Heads;
 use bank::Regs;
-use ring::Ring;
+use ring::Words;
 
-fn ring_ok(least: u32, r: Ring) -> bool
-    ensures { λ b. ⌜ b ≡ ringOk least r ⌝ }
+fn ring_ok(least: u32, cap: Words, head: u32, level: Words) -> bool
+    ensures { λ b. ⌜ b ≡ ringOk least (ring cap head level) ⌝ }
 {
-    bank::size_ok(least, r.cap.0, r.mark.0) & (r.head < r.cap.0) & (r.level.0 <= r.cap.0)
+    bank::size_ok(least, cap.0) & (head < cap.0) & (level.0 <= cap.0)
 }
 
-pub fn queues_ok(q: Queues) -> bool
-    ensures { λ b. ⌜ b ≡ queuesOk q ⌝ }
+pub fn queues_ok(k: Counts, l: Counts, h: Heads) -> bool
+    ensures { λ b. ⌜ b ≡ queuesOk (queuesOf k l h) ⌝ }
 {
-    ring_ok(2, q.cmd)
-        & ring_ok(1, q.cmdr)
-        & ring_ok(1, q.sdo)
-        & ring_ok(2, q.sdi)
-        & ring_ok(1, q.ibi)
+    ring_ok(2, k.cmd, h.cmd, l.cmd)
+        & ring_ok(1, k.cmdr, h.cmdr, l.cmdr)
+        & ring_ok(1, k.sdo, h.sdo, l.sdo)
+        & ring_ok(2, k.sdi, h.sdi, l.sdi)
+        & ring_ok(1, k.ibi, h.ibi, l.ibi)
 }
 
 pub fn regs_ok(g: Regs) -> bool

@@ -1,26 +1,24 @@
 // Whether a bank in reset is as a reset leaves it.
 ghost use mathlib.Core.Path.{_≡_};
-ghost use Rattle.bank.specs.Formed.{ringClear, queuesClear, controlClear, resetOk};
+ghost use Rattle.bank.specs.declared.Counts.{Counts};
+ghost use Rattle.bank.specs.Queues.{queuesOf};
+ghost use Rattle.bank.specs.Formed.{queuesClear, controlClear, resetOk};
 use bank::Control;
+use bank::Counts;
+use bank::Heads;
 use bank::Phase;
-use bank::Queues;
 use bank::phases;
-use ring::Ring;
 
-fn ring_clear(r: Ring) -> bool
-    ensures { λ b. ⌜ b ≡ ringClear r ⌝ }
+// Heads and levels 0. Capacities are not asked.
+fn queues_clear(l: Counts, h: Heads) -> bool
+    ensures { λ b. ⌜ ((k : Counts) → b ≡ queuesClear (queuesOf k l h)) ⌝ }
 {
-    (r.head == 0) & (r.level.0 == 0)
-}
-
-fn queues_clear(q: Queues) -> bool
-    ensures { λ b. ⌜ b ≡ queuesClear q ⌝ }
-{
-    ring_clear(q.cmd)
-        & ring_clear(q.cmdr)
-        & ring_clear(q.sdo)
-        & ring_clear(q.sdi)
-        & ring_clear(q.ibi)
+    (h.cmd == 0)
+        & (l.cmd.0 == 0)
+        & ((h.cmdr == 0) & (l.cmdr.0 == 0))
+        & ((h.sdo == 0) & (l.sdo.0 == 0))
+        & ((h.sdi == 0) & (l.sdi.0 == 0))
+        & ((h.ibi == 0) & (l.ibi.0 == 0))
 }
 
 fn control_clear(c: Control) -> bool
@@ -34,8 +32,8 @@ fn control_clear(c: Control) -> bool
         & (c.burst == 0)
 }
 
-pub fn reset_ok(c: Control, p: Phase, q: Queues) -> bool
-    ensures { λ b. ⌜ b ≡ resetOk c p q ⌝ }
+pub fn reset_ok(c: Control, p: Phase, l: Counts, h: Heads) -> bool
+    ensures { λ b. ⌜ ((k : Counts) → b ≡ resetOk c p (queuesOf k l h)) ⌝ }
 {
-    !c.held | (queues_clear(q) & control_clear(c) & (phases::stage_of(p) == phases::IDLE))
+    !c.held | (queues_clear(l, h) & control_clear(c) & (phases::stage_of(p) == phases::IDLE))
 }

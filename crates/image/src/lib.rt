@@ -5,6 +5,7 @@ ghost use Prim.Native.Nat.{_≤_};
 ghost use lib.ListN.{length, take};
 ghost use Rattle.image_model.specs.Image.{size, stateWords, imageOf, part, bankIn, same, encoded};
 use bank::Bank;
+use bank::Heads;
 use bank::State;
 
 // How many words an image has.
@@ -18,7 +19,7 @@ pub fn encode(b: Bank, image: &mut [u32])
     let flags = b.flags;
     let commands = b.commands;
     let payloads = b.payloads;
-    image_words::put_state(image, b.state);
+    image_words::put_state(image, b.state, b.heads);
     image_words::put_flags(image, flags);
     image_words::put_words(image, 168, commands);
     image_words::put_words(image, 184, payloads);
@@ -30,22 +31,24 @@ pub fn decode(image: &[u32]) -> Bank
     ensures { λ b. ⌜ b ≡ bankIn (now (image .entry)) ⌝ }
 {
     let s = image_fields::state_in(image);
+    let h = image_fields::heads_in(image);
     let flags = image_fields::flags_in(image);
     let commands = image_fields::words_in(image, 168);
     let payloads = image_fields::words_in(image, 184);
     Bank {
         state: s,
+        heads: h,
         flags: flags,
         commands: commands,
         payloads: payloads,
     }
 }
 
-fn same_state(image: &[u32], s: State) -> bool
+fn same_state(image: &[u32], s: State, h: Heads) -> bool
     requires { ⌜ 40 ≤ length (now image) ⌝ }
-    ensures { λ r. ⌜ r ≡ same (stateWords s) (take 40 (now (image .entry))) ⌝ }
+    ensures { λ r. ⌜ r ≡ same (stateWords s h) (take 40 (now (image .entry))) ⌝ }
 {
-    let ws = image_words::state_words(s);
+    let ws = image_words::state_words(s, h);
     let mut ok = true;
     for i in 0..40 {
         ok = ok & (ws[i] == image[i]);
@@ -70,5 +73,5 @@ pub fn is_encoded(image: &[u32], b: Bank) -> bool
     ensures { λ r. ⌜ r ≡ encoded (now (image .entry)) ⌝ }
 {
     let flags = b.flags;
-    same_state(image, b.state) & same_flags(image, flags)
+    same_state(image, b.state, b.heads) & same_flags(image, flags)
 }

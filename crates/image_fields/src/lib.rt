@@ -2,27 +2,41 @@
 ghost use mathlib.Core.Path.{_≡_};
 ghost use Prim.Native.Nat.{_+_, _≤_};
 ghost use lib.ListN.{length};
-ghost use Rattle.image_model.specs.Image.{size, ringIn, byteIn, bitIn, kindIn, transferIn, phaseIn, queuesIn, regsIn, controlIn, stateIn, part, lowBytes};
+ghost use Rattle.image_model.specs.Image.{size, countsIn, headsIn, byteIn, bitIn, kindIn, transferIn, phaseIn, regsIn, controlIn, stateIn, part, lowBytes};
 use bank::Control;
+use bank::Counts;
+use bank::Heads;
 use bank::Kind;
 use bank::Phase;
-use bank::Queues;
 use bank::Regs;
 use bank::State;
 use bank::Transfer;
 use ring::Bytes;
-use ring::Ring;
 use ring::Words;
 
-fn ring_in(image: &[u32], at: usize) -> Ring
-    requires { ⌜ at + 4 ≤ length (now image) ⌝ }
-    ensures { λ r. ⌜ r ≡ ringIn (now (image .entry)) at ⌝ }
+fn counts_in(image: &[u32], at: usize) -> Counts
+    requires { ⌜ at + 17 ≤ length (now image) ⌝ }
+    ensures { λ r. ⌜ r ≡ countsIn (now (image .entry)) at ⌝ }
 {
-    Ring {
-        cap: Words(image[at]),
-        mark: Words(image[at + 1]),
-        head: image[at + 2],
-        level: Words(image[at + 3]),
+    Counts {
+        cmd: Words(image[at]),
+        cmdr: Words(image[at + 4]),
+        sdo: Words(image[at + 8]),
+        sdi: Words(image[at + 12]),
+        ibi: Words(image[at + 16]),
+    }
+}
+
+pub fn heads_in(image: &[u32]) -> Heads
+    requires { ⌜ length (now image) ≡ size ⌝ }
+    ensures { λ h. ⌜ h ≡ headsIn (now (image .entry)) ⌝ }
+{
+    Heads {
+        cmd: image[2],
+        cmdr: image[6],
+        sdo: image[10],
+        sdi: image[14],
+        ibi: image[18],
     }
 }
 
@@ -63,23 +77,11 @@ fn phase_in(n: u32, t: Transfer) -> Phase
     }
 }
 
-fn queues_in(image: &[u32]) -> Queues
-    requires { ⌜ length (now image) ≡ size ⌝ }
-    ensures { λ q. ⌜ q ≡ queuesIn (now (image .entry)) ⌝ }
-{
-    Queues {
-        cmd: ring_in(image, 0),
-        cmdr: ring_in(image, 4),
-        sdo: ring_in(image, 8),
-        sdi: ring_in(image, 12),
-        ibi: ring_in(image, 16),
-    }
-}
-
 fn regs_in(image: &[u32]) -> Regs
     requires { ⌜ length (now image) ≡ size ⌝ }
     ensures { λ g. ⌜ g ≡ regsIn (now (image .entry)) ⌝ }
 {
+    let marks = counts_in(image, 1);
     Regs {
         id: byte_in(image, 20),
         scratch: image[21],
@@ -87,6 +89,7 @@ fn regs_in(image: &[u32]) -> Regs
         ops: byte_in(image, 23),
         config: byte_in(image, 24),
         selected: byte_in(image, 25),
+        marks: marks,
     }
 }
 
@@ -124,13 +127,15 @@ pub fn state_in(image: &[u32]) -> State
     requires { ⌜ length (now image) ≡ size ⌝ }
     ensures { λ s. ⌜ s ≡ stateIn (now (image .entry)) ⌝ }
 {
-    let q = queues_in(image);
+    let k = counts_in(image, 0);
+    let l = counts_in(image, 3);
     let g = regs_in(image);
     let c = control_in(image);
     let t = transfer_in(image);
     let p = phase_in(image[33], t);
     State {
-        queues: q,
+        caps: k,
+        levels: l,
         regs: g,
         control: c,
         phase: p,

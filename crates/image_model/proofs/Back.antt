@@ -15,12 +15,13 @@ use Rattle.bank.specs.declared.Transfer.{Transfer}
 use Rattle.bank.specs.declared.Phase.{Phase}
 use Rattle.bank.specs.declared.Phase.the-variants.{Idle, Writing, Reading, Unrequested, Requested, Answered}
 use Rattle.bank.specs.declared.State.{State}
+use Rattle.bank.specs.declared.Heads.{Heads}
 use Rattle.bank.specs.declared.Bank.{Bank}
 use Rattle.bank.specs.Bits.{weigh}
 use Rattle.bank.specs.Phases.{stage, transfer}
 use Rattle.bank.specs.Formed.{flagsOk}
 use Rattle.bank.proofs.Bools.{and-true}
-use Rattle.image_model.specs.Image.{kindNumber, stateWords, imageOf, kindIn, phaseIn, stateIn, part, lowBytes, bankIn}
+use Rattle.image_model.specs.Image.{kindNumber, stateWords, imageOf, kindIn, phaseIn, stateIn, headsIn, part, lowBytes, bankIn}
 
 -- ── Fields ────────────────────────────────────────────────────────────────────────────────────────────────────
 bit-back : (b : Bool) → eqb (weigh b 1) 1 ≡ b
@@ -62,12 +63,13 @@ pub record Bytes (s : State) : Type 0 where
   pub ibisync : s .control .ibisync ≤ 255
   pub burst : s .control .burst ≤ 255
 
-pub state-back : (s : State) (rest : List ℕ) → Bytes s → stateIn (stateWords s ++ rest) ≡ s
-state-back s rest h =
+pub state-back : (s : State) (k : Heads) (rest : List ℕ) → Bytes s → stateIn (stateWords s k ++ rest) ≡ s
+state-back s k rest h =
     let g = s .regs in
     let c = s .control in
     λ i. record {
-      queues = s .queues;
+      caps = s .caps;
+      levels = s .levels;
       regs =
           record {
             id = byte-back (g .id) (h .id) i;
@@ -76,6 +78,7 @@ state-back s rest h =
             ops = byte-back (g .ops) (h .ops) i;
             config = byte-back (g .config) (h .config) i;
             selected = byte-back (g .selected) (h .selected) i;
+            marks = g .marks;
           };
       control =
           record {
@@ -128,11 +131,15 @@ module _ (b : Bank) (z : Sized b) where
 
   pub state-part : Bytes (b .state) → stateIn (imageOf b) ≡ b .state
   unfolding imageOf
-  state-part h = state-back (b .state) (b .flags ++ (b .commands ++ b .payloads)) h
+  state-part h = state-back (b .state) (b .heads) (b .flags ++ (b .commands ++ b .payloads)) h
+
+  heads-part : headsIn (imageOf b) ≡ b .heads
+  unfolding imageOf
+  heads-part = refl
 
   pub bank-back : Bytes (b .state) → flagsOk (b .flags) ≡ true → bankIn (imageOf b) ≡ b
   unfolding bankIn
   bank-back h f =
       let s = state-part h in
       let g : lowBytes (part 40 128 (imageOf b)) ≡ b .flags = ap lowBytes flags-part ∙ flags-back (b .flags) f in
-      λ i. record { state = s i; flags = g i; commands = commands-part i; payloads = payloads-part i }
+      λ i. record { state = s i; heads = heads-part i; flags = g i; commands = commands-part i; payloads = payloads-part i }

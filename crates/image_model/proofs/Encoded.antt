@@ -6,7 +6,7 @@ use mathlib.Core.Bool.{Bool, true, false, _&&_}
 use mathlib.Core.List.{List, _++_}
 use lib.ListN.{length, take, drop, length-drop, length-map, take-append-drop}
 use lib.Seq.{length-take-le, take-all, drop-drop}
-use Rattle.image_model.specs.Image.{stateWords, stateIn, part, lowBytes, bankIn, imageOf, same, encoded}
+use Rattle.image_model.specs.Image.{stateWords, stateIn, headsIn, part, lowBytes, bankIn, imageOf, same, encoded}
 use Rattle.image_model.proofs.Words.{same-refl, same-append}
 
 -- the words from 168 on are the offload words
@@ -21,10 +21,10 @@ and-last true true c e = sym e
 and-last true false c e = refl
 and-last false b c e = refl
 
-pub encoded-parts : (ws : List ℕ) → length ws ≡ 200 → (same (stateWords (stateIn ws)) (take 40 ws) && same (lowBytes (part 40 128 ws)) (part 40 128 ws)) ≡ encoded ws
+pub encoded-parts : (ws : List ℕ) → length ws ≡ 200 → (same (stateWords (stateIn ws) (headsIn ws)) (take 40 ws) && same (lowBytes (part 40 128 ws)) (part 40 128 ws)) ≡ encoded ws
 unfolding imageOf bankIn
 encoded-parts ws n =
-    let head = stateWords (stateIn ws) in
+    let head = stateWords (stateIn ws) (headsIn ws) in
     let fs = part 40 128 ws in
     let tail = part 168 16 ws ++ part 184 16 ws in
     let k : length (lowBytes fs) ≡ 128 = length-map fs _ ∙ length-take-le 128 (drop 40 ws) (simp length-drop (omega arith)) in

@@ -77,7 +77,7 @@ image-size b z =
     let c = z .commands in
     let p = z .payloads in
     let n : length (b .flags ++ (b .commands ++ b .payloads)) ≡ 160 = simp length-append (omega arith) in
-    length-append (stateWords (b .state)) (b .flags ++ (b .commands ++ b .payloads)) ∙ ap (λ (k : ℕ). 40 + k) n
+    length-append (stateWords (b .state) (b .heads)) (b .flags ++ (b .commands ++ b .payloads)) ∙ ap (λ (k : ℕ). 40 + k) n
 
 -- an image that says b says a bank with its words
 image-of : (b : Bank) → length (imageOf b) ≡ size → bankIn (imageOf b) ≡ b → wellFormed b ≡ true → isImage (imageOf b) ≡ true

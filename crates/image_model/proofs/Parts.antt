@@ -22,11 +22,11 @@ module _ (ws : List ℕ) (at n : ℕ) (inside : at + n ≤ length ws) where
   low-byte i h = ap (λ (w : ℕ). w % 256) (part-word i h) ∙ sym (List·getD-map (λ w. w % 256) (part at n ws) i 0)
 
 -- the four parts, one behind the other, are the image
-pub put-together : (b : Bank) (i1 i2 i3 i4 : List ℕ) → take 40 i1 ≡ stateWords (b .state) → take 168 i2 ≡ take 40 i1 ++ b .flags → take 184 i3 ≡ take 168 i2 ++ b .commands → take 200 i4 ≡ take 184 i3 ++ b .payloads
+pub put-together : (b : Bank) (i1 i2 i3 i4 : List ℕ) → take 40 i1 ≡ stateWords (b .state) (b .heads) → take 168 i2 ≡ take 40 i1 ++ b .flags → take 184 i3 ≡ take 168 i2 ++ b .commands → take 200 i4 ≡ take 184 i3 ++ b .payloads
     → length i4 ≡ 200 → i4 ≡ imageOf b
 unfolding imageOf
 put-together b i1 i2 i3 i4 e1 e2 e3 e4 n =
-    let s = stateWords (b .state) in
+    let s = stateWords (b .state) (b .heads) in
     let f = b .flags in
     sym (take-all 200 i4 (omega (arith, n)))
     ∙ e4

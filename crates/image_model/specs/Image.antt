@@ -4,9 +4,10 @@ use mathlib.Core.Bool.{Bool, true, false, cond, _&&_}
 use mathlib.Core.List.{List, [], _∷_, _++_, map}
 use lib.Dec.{eqb}
 use lib.ListN.{length, getD, take, drop}
-use Rattle.ring.specs.declared.Ring.{Ring}
+use Rattle.ring.specs.declared.Words.{Words}
 use Rattle.ring.specs.Units.{bytes, words}
-use Rattle.bank.specs.declared.Queues.{Queues}
+use Rattle.bank.specs.declared.Counts.{Counts}
+use Rattle.bank.specs.declared.Heads.{Heads}
 use Rattle.bank.specs.declared.Regs.{Regs}
 use Rattle.bank.specs.declared.Control.{Control}
 use Rattle.bank.specs.declared.Kind.{Kind}
@@ -24,8 +25,9 @@ use Rattle.bank.specs.Formed.{wellFormed}
 abbrev pub size : ℕ
 size = 200
 
-abbrev pub ringWords : Ring → List ℕ
-ringWords r = r .cap .0 ∷ r .mark .0 ∷ r .head ∷ r .level .0 ∷ []
+-- of a queue: capacity, watermark, head, level
+abbrev pub queueWords : Words → Words → ℕ → Words → List ℕ
+queueWords k m h l = k .0 ∷ m .0 ∷ h ∷ l .0 ∷ []
 
 abbrev pub regWords : Regs → List ℕ
 regWords g = g .id ∷ g .scratch ∷ g .mask ∷ g .ops ∷ g .config ∷ g .selected ∷ []
@@ -40,24 +42,33 @@ kindNumber Private = 0
 kindNumber Direct = 1
 kindNumber Broadcast = 2
 
+abbrev pub transferWords : Transfer → List ℕ
+transferWords t =
+    kindNumber (t .kind) ∷ weigh (t .header) 1 ∷ t .length .0 ∷ t .moved .0 ∷ weigh (t .attached) 1 ∷ t .part ∷ []
+
 -- the number of the phase, then its transfer; where none is open, zeros
 abbrev pub phaseWords : Phase → List ℕ
-phaseWords p =
-    let t = transfer p in
-    stage p ∷ kindNumber (t .kind) ∷ weigh (t .header) 1 ∷ t .length .0 ∷ t .moved .0 ∷ weigh (t .attached) 1 ∷ t .part ∷ []
+phaseWords p = stage p ∷ transferWords (transfer p)
 
-abbrev pub stateWords : State → List ℕ
-stateWords s =
-    let q = s .queues in
-    ringWords (q .cmd) ++ (ringWords (q .cmdr) ++ (ringWords (q .sdo) ++ (ringWords (q .sdi) ++ (ringWords (q .ibi)
+abbrev pub stateWords : State → Heads → List ℕ
+stateWords s h =
+    let k = s .caps in
+    let m = s .regs .marks in
+    let l = s .levels in
+    queueWords (k .cmd) (m .cmd) (h .cmd) (l .cmd) ++ (queueWords (k .cmdr) (m .cmdr) (h .cmdr) (l .cmdr) ++ (queueWords (k .sdo) (m .sdo) (h .sdo) (l .sdo)
+    ++ (queueWords (k .sdi) (m .sdi) (h .sdi) (l .sdi) ++ (queueWords (k .ibi) (m .ibi) (h .ibi) (l .ibi)
     ++ (regWords (s .regs) ++ (controlWords (s .control) ++ phaseWords (s .phase)))))))
 
 unfoldable pub imageOf : Bank → List ℕ
-imageOf b = stateWords (b .state) ++ (b .flags ++ (b .commands ++ b .payloads))
+imageOf b = stateWords (b .state) (b .heads) ++ (b .flags ++ (b .commands ++ b .payloads))
 
 -- ── The bank that some words say ──────────────────────────────────────────────────────────────────────────────
-abbrev pub ringIn : List ℕ → ℕ → Ring
-ringIn ws at = record { cap = words (getD ws at 0); mark = words (getD ws (at + 1) 0); head = getD ws (at + 2) 0; level = words (getD ws (at + 3) 0) }
+-- one number of each queue: four words a queue
+abbrev pub countsIn : List ℕ → ℕ → Counts
+countsIn ws at = record { cmd = words (getD ws at 0); cmdr = words (getD ws (at + 4) 0); sdo = words (getD ws (at + 8) 0); sdi = words (getD ws (at + 12) 0); ibi = words (getD ws (at + 16) 0) }
+
+abbrev pub headsIn : List ℕ → Heads
+headsIn ws = record { cmd = getD ws 2 0; cmdr = getD ws 6 0; sdo = getD ws 10 0; sdi = getD ws 14 0; ibi = getD ws 18 0 }
 
 -- a field of a byte, and one of a bit
 abbrev pub byteIn : List ℕ → ℕ → ℕ
@@ -82,18 +93,15 @@ phaseIn n t =
     (cond (eqb n 4) (Requested t)
     (Answered t)))))
 
-abbrev pub queuesIn : List ℕ → Queues
-queuesIn ws = record { cmd = ringIn ws 0; cmdr = ringIn ws 4; sdo = ringIn ws 8; sdi = ringIn ws 12; ibi = ringIn ws 16 }
-
 abbrev pub regsIn : List ℕ → Regs
-regsIn ws = record { id = byteIn ws 20; scratch = getD ws 21 0; mask = byteIn ws 22; ops = byteIn ws 23; config = byteIn ws 24; selected = byteIn ws 25 }
+regsIn ws = record { id = byteIn ws 20; scratch = getD ws 21 0; mask = byteIn ws 22; ops = byteIn ws 23; config = byteIn ws 24; selected = byteIn ws 25; marks = countsIn ws 1 }
 
 abbrev pub controlIn : List ℕ → Control
 controlIn ws =
     record { held = bitIn ws 26; sync = byteIn ws 27; ibisync = byteIn ws 28; cmdrpending = bitIn ws 29; ibipending = bitIn ws 30; daapending = bitIn ws 31; burst = byteIn ws 32 }
 
 abbrev pub stateIn : List ℕ → State
-stateIn ws = record { queues = queuesIn ws; regs = regsIn ws; control = controlIn ws; phase = phaseIn (getD ws 33 0) (transferIn ws) }
+stateIn ws = record { caps = countsIn ws 0; levels = countsIn ws 3; regs = regsIn ws; control = controlIn ws; phase = phaseIn (getD ws 33 0) (transferIn ws) }
 
 abbrev pub part : ℕ → ℕ → List ℕ → List ℕ
 part at n ws = take n (drop at ws)
@@ -102,7 +110,7 @@ abbrev pub lowBytes : List ℕ → List ℕ
 lowBytes = map (λ w. w % 256)
 
 unfoldable pub bankIn : List ℕ → Bank
-bankIn ws = record { state = stateIn ws; flags = lowBytes (part 40 128 ws); commands = part 168 16 ws; payloads = part 184 16 ws }
+bankIn ws = record { state = stateIn ws; heads = headsIn ws; flags = lowBytes (part 40 128 ws); commands = part 168 16 ws; payloads = part 184 16 ws }
 
 -- ── Which words are an image ──────────────────────────────────────────────────────────────────────────────────
 abbrev pub same : List ℕ → List ℕ → Bool

@@ -4,6 +4,7 @@ ghost use Prim.Native.Nat.{_+_, _≤_};
 ghost use mathlib.Core.List.{_++_};
 ghost use lib.ListN.{length, take};
 ghost use Rattle.image_model.specs.Image.{kindNumber, stateWords};
+use bank::Heads;
 use bank::Kind;
 use bank::State;
 use bank::phases;
@@ -19,36 +20,38 @@ fn kind_number(k: Kind) -> u32
 }
 
 // All of a bank but its arrays, in words.
-pub fn state_words(s: State) -> [u32; 40]
-    ensures { λ ws. ⌜ ws ≡ stateWords s ⌝ }
+pub fn state_words(s: State, h: Heads) -> [u32; 40]
+    ensures { λ ws. ⌜ ws ≡ stateWords s h ⌝ }
 {
-    let q = s.queues;
+    let n = s.caps;
+    let l = s.levels;
     let g = s.regs;
+    let m = g.marks;
     let c = s.control;
     let p = s.phase;
     let t = phases::transfer_of(p);
     let k = t.kind;
     [
-        q.cmd.cap.0,
-        q.cmd.mark.0,
-        q.cmd.head,
-        q.cmd.level.0,
-        q.cmdr.cap.0,
-        q.cmdr.mark.0,
-        q.cmdr.head,
-        q.cmdr.level.0,
-        q.sdo.cap.0,
-        q.sdo.mark.0,
-        q.sdo.head,
-        q.sdo.level.0,
-        q.sdi.cap.0,
-        q.sdi.mark.0,
-        q.sdi.head,
-        q.sdi.level.0,
-        q.ibi.cap.0,
-        q.ibi.mark.0,
-        q.ibi.head,
-        q.ibi.level.0,
+        n.cmd.0,
+        m.cmd.0,
+        h.cmd,
+        l.cmd.0,
+        n.cmdr.0,
+        m.cmdr.0,
+        h.cmdr,
+        l.cmdr.0,
+        n.sdo.0,
+        m.sdo.0,
+        h.sdo,
+        l.sdo.0,
+        n.sdi.0,
+        m.sdi.0,
+        h.sdi,
+        l.sdi.0,
+        n.ibi.0,
+        m.ibi.0,
+        h.ibi,
+        l.ibi.0,
         g.id as u32,
         g.scratch,
         g.mask as u32,
@@ -79,11 +82,11 @@ pub fn wide(x: u8) -> u32
 }
 
 // The parts of an image, each behind what was written before it.
-pub fn put_state(image: &mut [u32], s: State)
+pub fn put_state(image: &mut [u32], s: State, h: Heads)
     requires { ⌜ 40 ≤ length (now image) ⌝ }
-    ensures { λ _. ⌜ take 40 (now (image .exit)) ≡ stateWords s ⌝ }
+    ensures { λ _. ⌜ take 40 (now (image .exit)) ≡ stateWords s h ⌝ }
 {
-    let ws = state_words(s);
+    let ws = state_words(s, h);
     for i in 0..40 {
         image[i] = ws[i];
     }

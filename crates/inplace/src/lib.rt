@@ -12,8 +12,8 @@ use bank::Bank;
 use model::Call;
 
 // A register is read, on a bank that is changed where it lies; whatever output is lent, it is as it was.
-pub fn read_in_place(bank: &mut Bank, store: &[u32], offset: u16) -> Answer
-    ensures { λ r. ⌜ ((o : List ℕ) → left (now (bank .exit)) r (now (store .entry)) o ≡ step rings (controller (now (bank .entry)) (now (store .entry)) o) (Read offset)) ⌝ }
+pub fn read_in_place(bank: &mut Bank, store: &mut [u32], offset: u16) -> Answer
+    ensures { λ r. ⌜ ((o : List ℕ) → left (now (bank .exit)) r (now (store .exit)) o ≡ step rings (controller (now (bank .entry)) (now (store .entry)) o) (Read offset)) ⌝ }
 {
     let out = controller::read(*bank, store, offset);
     *bank = out.bank;

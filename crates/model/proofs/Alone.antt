@@ -11,6 +11,7 @@ use borrow.Author.Tests.{eqb-true, not-false}
 use Rattle.bank.specs.Bits.{bit}
 use Rattle.bank.specs.Phases.{idle, assigning, requested}
 use Rattle.bank.specs.Bursts.{bursting}
+use Rattle.bank.specs.Queues.{Queues, queuesIn, capsOf, levelsOf, headsOf}
 use Rattle.bank.specs.SetUp.{total}
 use Rattle.bank.specs.Formed.{wellFormed}
 use Rattle.bank.proofs.Bools.{or-left, and-true}
@@ -25,8 +26,8 @@ use Rattle.model.specs.Calls.{busy, start, send, receive, finish, interr
 use Rattle.model.specs.Bursts.{standing, trigger, burstSend, burstReceive, burstFinish, decide}
 use Rattle.model.specs.Engine.{Step, outcome, step}
 use Rattle.model.specs.Rings.{Controller, viewRings, onRing, onStore, settleRings, rings}
-use Rattle.model.specs.Laws.{StaysWellFormed}
-use Rattle.model.specs.BurstLaw.{after, isAccess, accesses, resets, noReset}
+use Rattle.model.specs.Laws.{isAccess, StaysWellFormed}
+use Rattle.model.specs.BurstLaw.{after, accesses, resets, noReset}
 use Rattle.model.proofs.Tests.{Passed, of-two}
 use Rattle.model.proofs.Phases.{requested-assigns}
 use Rattle.model.proofs.Open.{no-burst-idle, no-burst-assigning}
@@ -42,7 +43,7 @@ Throughout m (c ∷ cs) = (bursting (m .bank .state .control) ≡ true) × Throu
 
 -- n is m but for its open burst, in what no event of a burst changes
 pub record Beside (m n : Controller) : Type 0 where
-  pub queues : m .bank .state .queues ≡ n .bank .state .queues
+  pub queues : queuesIn (m .bank) ≡ queuesIn (n .bank)
   pub store : m .store ≡ n .store
   pub control : standing 0 (m .bank .state .control) ≡ n .bank .state .control
 
@@ -54,7 +55,8 @@ graft m n =
     record {
       bank =
           record {
-            state = record { queues = s .queues; regs = n .bank .state .regs; control = standing 0 (s .control); phase = n .bank .state .phase };
+            state = record { caps = s .caps; levels = s .levels; regs = n .bank .state .regs; control = standing 0 (s .control); phase = n .bank .state .phase };
+            heads = m .bank .heads;
             flags = n .bank .flags;
             commands = n .bank .commands;
             payloads = n .bank .payloads;
@@ -68,7 +70,8 @@ graft-is m n b =
     λ i. record {
       bank =
           record {
-            state = record { queues = b .queues i; regs = n .bank .state .regs; control = b .control i; phase = n .bank .state .phase };
+            state = record { caps = capsOf (b .queues i); levels = levelsOf (b .queues i); regs = n .bank .state .regs; control = b .control i; phase = n .bank .state .phase };
+            heads = headsOf (b .queues i);
             flags = n .bank .flags;
             commands = n .bank .commands;
             payloads = n .bank .payloads;
@@ -152,12 +155,12 @@ module _ (m n : Controller) where
   access-grafted Trigger a = absurd (false≢true a)
 
 -- 21 and 22 do not arise
-acts : (l : Controller) (c : Call) → wellFormed (l .bank) ≡ true → length (l .store) ≡ total (l .bank .state .queues) → step rings l c .next ≡ acted l (decide (viewRings l) c)
+acts : (l : Controller) (c : Call) → wellFormed (l .bank) ≡ true → length (l .store) ≡ total (l .bank .state .caps) → step rings l c .next ≡ acted l (decide (viewRings l) c)
 acts l c f z = ap (λ (r : Step Controller). r .next) (rings-step l c (formed-of (l .bank) f) z)
 
-access-beside : (m n : Controller) (c : Call) → isAccess c ≡ true → wellFormed (m .bank) ≡ true → length (m .store) ≡ total (m .bank .state .queues) → wellFormed (n .bank) ≡ true → Beside m n → Beside (step rings m c .next) (step rings n c .next)
+access-beside : (m n : Controller) (c : Call) → isAccess c ≡ true → wellFormed (m .bank) ≡ true → length (m .store) ≡ total (m .bank .state .caps) → wellFormed (n .bank) ≡ true → Beside m n → Beside (step rings m c .next) (step rings n c .next)
 access-beside m n c a f z g b =
-    let y = ap length (sym (b .store)) ∙ z ∙ ap total (b .queues) in
+    let y = ap length (sym (b .store)) ∙ z ∙ ap (λ (q : Queues). total (capsOf q)) (b .queues) in
     subst (λ (k : Controller). Beside k (step rings n c .next)) (sym (acts m c f z))
     (subst (λ (k : Controller). Beside (acted m (decide (viewRings m) c)) k) (sym (acts n c g y))
     (subst (λ (k : Controller). Beside (acted m (decide (viewRings m) c)) (acted k (decide (viewRings k) c))) (graft-is m n b) (access-grafted m n c a)))
@@ -212,7 +215,7 @@ triggered-beside l =
     let n = eqb-true (s .control .burst) 0 (not-false (eqb (s .control .burst) 0) k) in
     record { queues = refl; store = refl; control = λ i. standing (sym n i) (s .control) })
 
-pub alone : (cs : List Call) (m n : Controller) → wellFormed (m .bank) ≡ true → length (m .store) ≡ total (m .bank .state .queues) → wellFormed (n .bank) ≡ true → noReset cs ≡ true → Throughout m cs → Beside m n → Beside (after m cs) (after n (accesses cs))
+pub alone : (cs : List Call) (m n : Controller) → wellFormed (m .bank) ≡ true → length (m .store) ≡ total (m .bank .state .caps) → wellFormed (n .bank) ≡ true → noReset cs ≡ true → Throughout m cs → Beside m n → Beside (after m cs) (after n (accesses cs))
 unfolding after accesses noReset StaysWellFormed
 alone [] m n f z g r t b = b
 alone (c ∷ cs) m n f z g r t b =

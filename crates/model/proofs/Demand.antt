@@ -65,7 +65,7 @@ nothing-counted (Request v w) = refl
 nothing-counted Take = refl
 nothing-counted Trigger = refl
 
-never-released : (cs : List Lent) (l : Controller) → wellFormed (l .bank) ≡ true → (length (l .store) ≡ total (l .bank .state .queues) → ⊥) → tally rings none l cs ≡ none
+never-released : (cs : List Lent) (l : Controller) → wellFormed (l .bank) ≡ true → (length (l .store) ≡ total (l .bank .state .caps) → ⊥) → tally rings none l cs ≡ none
 unfolding tally WrongLength
 never-released [] l h z = refl
 never-released (c ∷ cs) l h z =
@@ -84,11 +84,11 @@ fresh-kept caps marks id n =
 
 pub demand : Demand
 unfolding Demand SetUpWellFormed
-demand caps marks id store cs t n e = go (eqb (length store) (total (l .bank .state .queues))) refl
+demand caps marks id store cs t n e = go (eqb (length store) (total (l .bank .state .caps))) refl
   where
     l : Controller
     l = fresh caps marks id store
 
-    go : (b : Bool) → eqb (length store) (total (l .bank .state .queues)) ≡ b → Claim t (listed (final rings l cs))
-    go true z = from-lists l (freshLists caps marks id) (fresh-sound caps marks id store n (eqb-true (length store) (total (l .bank .state .queues)) z)) (fresh-kept caps marks id n) cs t e
-    go false z = absurd (Option·none-ne-some t (sym (never-released cs l (set-up-well-formed caps marks id n) (eqb-false (length store) (total (l .bank .state .queues)) z)) ∙ e))
+    go : (b : Bool) → eqb (length store) (total (l .bank .state .caps)) ≡ b → Claim t (listed (final rings l cs))
+    go true z = from-lists l (freshLists caps marks id) (fresh-sound caps marks id store n (eqb-true (length store) (total (l .bank .state .caps)) z)) (fresh-kept caps marks id n) cs t e
+    go false z = absurd (Option·none-ne-some t (sym (never-released cs l (set-up-well-formed caps marks id n) (eqb-false (length store) (total (l .bank .state .caps)) z)) ∙ e))

@@ -14,7 +14,7 @@ use Rattle.ring.specs.Ring.{entries}
 use Rattle.ring.proofs.Laws.{entries-length, entries-take}
 use Rattle.bank.specs.declared.Control.{Control}
 use Rattle.bank.specs.declared.Phase.{Phase}
-use Rattle.bank.specs.declared.Queues.{Queues}
+use Rattle.bank.specs.Queues.{Queues, queuesIn}
 use Rattle.bank.specs.Phases.{idle, transfer}
 use Rattle.bank.specs.SetUp.{total, cleared}
 use Rattle.bank.specs.Formed.{queuesClear, controlClear, ringClear, resetOk, wellFormed}
@@ -50,20 +50,20 @@ settled l c = let e = effect (decide (viewRings l) c) in outcome none e l (settl
 pub not-zero : (n : ℕ) → Refusal n → n ≡ 0 → ⊥
 not-zero n r e = true≢false (sym (eq-eqb n 0 e) ∙ r .not0)
 
-pub served : (l : Controller) (c : Call) → step rings l c .answer .number ≡ 0 → (wellFormed (l .bank) ≡ true) × (eqb (length (l .store)) (total (l .bank .state .queues)) ≡ true) × (step rings l c ≡ settled l c)
-served l c = by-outcome (λ r. r .answer .number ≡ 0 → (wellFormed (l .bank) ≡ true) × (eqb (length (l .store)) (total (l .bank .state .queues)) ≡ true) × (r ≡ settled l c)) l c (λ n k e. absurd (not-zero n k e)) (λ f z p e. (f, eq-eqb (length (l .store)) (total (l .bank .state .queues)) z, refl))
+pub served : (l : Controller) (c : Call) → step rings l c .answer .number ≡ 0 → (wellFormed (l .bank) ≡ true) × (eqb (length (l .store)) (total (l .bank .state .caps)) ≡ true) × (step rings l c ≡ settled l c)
+served l c = by-outcome (λ r. r .answer .number ≡ 0 → (wellFormed (l .bank) ≡ true) × (eqb (length (l .store)) (total (l .bank .state .caps)) ≡ true) × (r ≡ settled l c)) l c (λ n k e. absurd (not-zero n k e)) (λ f z p e. (f, eq-eqb (length (l .store)) (total (l .bank .state .caps)) z, refl))
 
 -- ── A register that is read without a test ────────────────────────────────────────────────────────────────────
 abbrev RightLength : Controller → Type 0
-RightLength l = length (l .store) ≡ total (l .bank .state .queues)
+RightLength l = length (l .store) ≡ total (l .bank .state .caps)
 
-read-held : (l : Controller) (o : ℕ) (c : Cell) → wellFormed (l .bank) ≡ true → eqb (length (l .store)) (total (l .bank .state .queues)) ≡ true → row (registerAt o) ≡ holds c → step rings l (Read o) .answer ≡ record { value = shown c (viewRings l); number = 0 }
+read-held : (l : Controller) (o : ℕ) (c : Cell) → wellFormed (l .bank) ≡ true → eqb (length (l .store)) (total (l .bank .state .caps)) ≡ true → row (registerAt o) ≡ holds c → step rings l (Read o) .answer ≡ record { value = shown c (viewRings l); number = 0 }
 unfolding step guardRings
 read-held l o c f z e = rw (f, z, e)
 
 pub plain-write-taken : PlainWriteTaken
 unfolding PlainWriteTaken step guardRings
-plain-write-taken l o v c e f z = rw (f, eq-eqb (length (l .store)) (total (l .bank .state .queues)) z, e) (by-burst (burstHolds c && bursting (l .bank .state .control)))
+plain-write-taken l o v c e f z = rw (f, eq-eqb (length (l .store)) (total (l .bank .state .caps)) z, e) (by-burst (burstHolds c && bursting (l .bank .state .control)))
   where
     by-burst : (b : Bool) → (let x = effect (write (holds c) (viewRings l) v) in outcome (cond b (some 6) none) x l (settleRings l x) .answer ≡ record { value = 0; number = cond b 6 0 })
     by-burst true = refl
@@ -86,7 +86,7 @@ stored-shown l devChar v w = ap (λ (x : ℕ). bits 15 9 v * 2 ^ 9 + x * 2) (fla
 stored-shown l (offloadCmd i) v w = getD-set-same (l .bank .commands) i v 0 w
 stored-shown l (offloadSdo i) v w = getD-set-same (l .bank .payloads) i v 0 w
 
-stored-size : (l : Controller) (c : Cell) (v : ℕ) (b : Bool) → eqb (length (l .store)) (total (l .bank .state .queues)) ≡ b → eqb (length (stored l c v .store)) (total (stored l c v .bank .state .queues)) ≡ b
+stored-size : (l : Controller) (c : Cell) (v : ℕ) (b : Bool) → eqb (length (l .store)) (total (l .bank .state .caps)) ≡ b → eqb (length (stored l c v .store)) (total (stored l c v .bank .state .caps)) ≡ b
 unfolding onRing onStore
 stored-size l c v b z = z
 
@@ -116,9 +116,9 @@ caps-kept k (c ∷ cs) m =
     let d = decide (viewLists n) (c .call) in
     caps-kept k cs (step lists n (c .call) .next) ∙ caps-settled k n (first d) (effect d)
 
-room-read : (l : Controller) → Formed (l .bank) → RightLength l → (step rings l (Read 0x0c0) .answer .value ≡ l .bank .state .queues .cmd .cap .0 - l .bank .state .queues .cmd .level .0) × (step rings l (Read 0x0c8) .answer .value ≡ l .bank .state .queues .sdo .cap .0 - l .bank .state .queues .sdo .level .0)
+room-read : (l : Controller) → Formed (l .bank) → RightLength l → (step rings l (Read 0x0c0) .answer .value ≡ queuesIn (l .bank) .cmd .cap .0 - queuesIn (l .bank) .cmd .level .0) × (step rings l (Read 0x0c8) .answer .value ≡ queuesIn (l .bank) .sdo .cap .0 - queuesIn (l .bank) .sdo .level .0)
 unfolding step guardRings named find
-room-read l f z = (rw (formed-is (l .bank) f, eq-eqb (length (l .store)) (total (l .bank .state .queues)) z), rw (formed-is (l .bank) f, eq-eqb (length (l .store)) (total (l .bank .state .queues)) z))
+room-read l f z = (rw (formed-is (l .bank) f, eq-eqb (length (l .store)) (total (l .bank .state .caps)) z), rw (formed-is (l .bank) f, eq-eqb (length (l .store)) (total (l .bank .state .caps)) z))
 
 whole-room : (value cap level count want : ℕ) → value ≡ cap - level → count ≡ level → level ≤ cap → cap ≡ want → value + count ≡ want
 whole-room value cap level count want a b c d = omega arith
@@ -128,7 +128,7 @@ unfolding RoomAndWords
 room-and-words caps marks id store cs n z =
     let s = same-final cs (fresh caps marks id store) (freshLists caps marks id) (fresh-sound caps marks id store n z) in
     let l = final rings (fresh caps marks id store) cs in
-    let q = l .bank .state .queues in
+    let q = queuesIn (l .bank) in
     let a = areas q in
     let r = ready q (l .store) (s .formed .queues) (s .size) in
     let v = room-read l (s .formed) (s .size) in
@@ -178,7 +178,7 @@ only-takes Sdo = refl
 only-takes Sdi = refl
 only-takes Ibi = refl
 
-level-of : (l : Controller) (q : Queue) → of q (viewRings l .queues) .level ≡ of q (areas (l .bank .state .queues)) .ring .level .0
+level-of : (l : Controller) (q : Queue) → of q (viewRings l .queues) .level ≡ of q (areas (queuesIn (l .bank))) .ring .level .0
 level-of l Cmd = refl
 level-of l Cmdr = refl
 level-of l Sdo = refl
@@ -199,7 +199,7 @@ some-left (suc n) m e k = omega (arith, e)
 one-less : (l : Controller) (q : Queue) → wellFormed (l .bank) ≡ true → RightLength l → eqb (of q (viewRings l .queues) .level) 0 ≡ false → wordsOf q (settleRings l (effect (read (takes q) (viewRings l)))) ≡ drop 1 (wordsOf q l)
 unfolding onRing
 one-less l q f z h =
-    let k = l .bank .state .queues in
+    let k = queuesIn (l .bank) in
     let a = of q (areas k) in
     let at = base-same k (l .store) (only q (take 1)) (ready k (l .store) (formed-of (l .bank) f .queues) z) q ∙ ap (λ (o : QueueOp). onArea o a) (only-takes q) in
     let some = eqb-false (of q (viewRings l .queues) .level) 0 h in
@@ -257,13 +257,13 @@ while-held : (held rest : Bool) → held ≡ true → (not held || rest) ≡ tru
 while-held true rest h e = e
 while-held false rest h e = absurd (false≢true h)
 
-pub all-clear : (l : Controller) → wellFormed (l .bank) ≡ true → l .bank .state .control .held ≡ true → (let s = l .bank .state in (queuesClear (s .queues) ≡ true) × (controlClear (s .control) ≡ true) × (idle (s .phase) ≡ true))
+pub all-clear : (l : Controller) → wellFormed (l .bank) ≡ true → l .bank .state .control .held ≡ true → (let s = l .bank .state in (queuesClear (queuesIn (l .bank)) ≡ true) × (controlClear (s .control) ≡ true) × (idle (s .phase) ≡ true))
 unfolding resetOk
-all-clear l f h = let s = l .bank .state in three (queuesClear (s .queues)) (controlClear (s .control)) (idle (s .phase)) (while-held (s .control .held) (queuesClear (s .queues) && controlClear (s .control) && idle (s .phase)) h (formed-of (l .bank) f .reset))
+all-clear l f h = let s = l .bank .state in three (queuesClear (queuesIn (l .bank))) (controlClear (s .control)) (idle (s .phase)) (while-held (s .control .held) (queuesClear (queuesIn (l .bank)) && controlClear (s .control) && idle (s .phase)) h (formed-of (l .bank) f .reset))
 
 enable-taken : (l : Controller) (v : ℕ) → wellFormed (l .bank) ≡ true → RightLength l → step rings l (Write 0x040 v) ≡ settled l (Write 0x040 v)
 unfolding step guardRings named find
-enable-taken l v f z = rw (f, eq-eqb (length (l .store)) (total (l .bank .state .queues)) z)
+enable-taken l v f z = rw (f, eq-eqb (length (l .store)) (total (l .bank .state .caps)) z)
 
 enabled-answer : (l : Controller) (b : Bool) → outcome none (enable (viewRings l) b) l (settleRings l (enable (viewRings l) b)) .answer ≡ record { value = 0; number = 0 }
 unfolding enable
@@ -276,7 +276,7 @@ reset-holds l = refl
 
 freed : (m : Controller) → wellFormed (m .bank) ≡ true → m .bank .state .control .held ≡ true → Clean (settled m (Write 0x040 0) .next)
 unfolding named find enable onRing onStore
-freed m f h = let z = all-clear m f h in record { control = control-none (m .bank .state .control) (z .1); phase = z .2; words = queues-none (m .bank .state .queues) (m .store) (z .0) }
+freed m f h = let z = all-clear m f h in record { control = control-none (m .bank .state .control) (z .1); phase = z .2; words = queues-none (queuesIn (m .bank)) (m .store) (z .0) }
 
 pub released-clean : ReleasedClean
 unfolding ReleasedClean named find
@@ -369,17 +369,17 @@ again l m code n k f z h =
     let word = ap (λ (p : Phase). receiptWord code (transfer p .moved .0) (s .control .sync)) (k .phase) ∙ ap (receiptWord code (transfer (l .bank .state .phase) .moved .0)) (k .sync) in
     let x = effect (finish (viewRings m) code) in
     ap (λ (r : Step Controller). r .answer) (finished-by m code (ap (λ (b : ℕ). not (eqb b 0)) (k .burst) ∙ n))
-    ∙ by-tests (not (wellFormed (m .bank))) (not (eqb (length (m .store)) (total (s .queues)))) (ltb 15 code) (s .control .held) (idle (s .phase)) (not (allowed (s .phase) code)) (noRoom (viewRings m)) x m (settleRings m x) _ refl word
-    (ap not f) (ap not (eq-eqb (length (m .store)) (total (s .queues)) z)) (h .0) (k .held ∙ h .1) (ap idle (k .phase) ∙ h .2) (ap (λ (p : Phase). not (allowed p code)) (k .phase) ∙ h .3)
+    ∙ by-tests (not (wellFormed (m .bank))) (not (eqb (length (m .store)) (total (s .caps)))) (ltb 15 code) (s .control .held) (idle (s .phase)) (not (allowed (s .phase) code)) (noRoom (viewRings m)) x m (settleRings m x) _ refl word
+    (ap not f) (ap not (eq-eqb (length (m .store)) (total (s .caps)) z)) (h .0) (k .held ∙ h .1) (ap idle (k .phase) ∙ h .2) (ap (λ (p : Phase). not (allowed p code)) (k .phase) ∙ h .3)
 
 finish-tests : (l : Controller) (code : ℕ) → bursting (l .bank .state .control) ≡ false → step rings l (Finish code) .answer .number ≡ 13 → (wellFormed (l .bank) ≡ true) × RightLength l × (let s = l .bank .state in (ltb 15 code ≡ false) × (s .control .held ≡ false) × (idle (s .phase) ≡ false) × (not (allowed (s .phase) code) ≡ false))
 unfolding guardRings finish
 finish-tests l code b n =
     let s = l .bank .state in
     let x = effect (finish (viewRings l) code) in
-    let e = eqb (length (l .store)) (total (s .queues)) in
+    let e = eqb (length (l .store)) (total (s .caps)) in
     let h = last-alone (not (wellFormed (l .bank))) (not e) (ltb 15 code) (s .control .held) (idle (s .phase)) (not (allowed (s .phase) code)) (noRoom (viewRings l)) x l (settleRings l x) refl (sym (ap (λ (r : Step Controller). r .answer .number) (finished-by l code b)) ∙ n) in
-    (not-false (wellFormed (l .bank)) (h .0), eqb-true (length (l .store)) (total (s .queues)) (not-false e (h .1)), (h .2, h .3, h .4, h .5))
+    (not-false (wellFormed (l .bank)) (h .0), eqb-true (length (l .store)) (total (s .caps)) (not-false e (h .1)), (h .2, h .3, h .4, h .5))
 
 pub refused-finish-again : RefusedFinishAgain
 unfolding RefusedFinishAgain RefusalChangesNothing

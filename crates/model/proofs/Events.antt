@@ -166,7 +166,7 @@ start-good none l f g = absurd (not-held (direct l) g (f .0))
 start-good (some t) l f g =
     record {
       isReleased = g .isReleased;
-      inv = inv-start (t .words) (t .past) (t .receipts) (l .queues .cmd .cap) (l .phase) (l .queues .cmd .words) (l .queues .cmdr .words) (l .control .sync) (t .now) (l .queues .cmd .mark) _ (not-false _ (f .1 .0)) (not-false _ (f .1 .1 .1 .0)) (g .inv);
+      inv = inv-start (t .words) (t .past) (t .receipts) (l .queues .cmd .cap) (l .phase) (l .queues .cmd .words) (l .queues .cmdr .words) (l .control .sync) (t .now) _ (not-false _ (f .1 .0)) (not-false _ (f .1 .1 .1 .0)) (g .inv);
     }
 
 pub finish-good : (o : Option Tally) (l : Lists) (code : ℕ) → ltb 15 code ≡ false → Passed (finish (viewLists l) code) → Good o (direct l) → Good (follow o (bus (finished code (receiptWord code (transfer (l .phase) .moved .0) (l .control .sync))))) (direct (settleLists l (effect (finish (viewLists l) code))))

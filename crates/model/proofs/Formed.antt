@@ -1,25 +1,25 @@
 -- A call keeps a bank well formed, part by part: rings, registers, flags, phase, and what holds in reset.
 use Prim.Native.Nat.{ℕ, zero, suc, _+_, _-_, _*_, _/_, _%_, _^_, _≤_, _<_}
 use native.Mathlib.Omega.{arith}
-use mathlib.Core.Path.{_≡_, refl, ap, sym, _∙_, subst}
+use mathlib.Core.Path.{_≡_, refl, ap, sym, _∙_}
 use mathlib.Core.Bool.{Bool, true, false, cond, not, _&&_, _||_, true≢false, false≢true}
 use mathlib.Core.List.{List, [], _∷_}
 use lib.Dec.{leb, ltb, eqb, leb·zero}
 use lib.ListN.{set}
-use lib.Count.{ones}
-use borrow.Author.Tests.{leb-false, eqb-true, not-false, lt-ltb, le-leb, eq-eqb}
+use borrow.Author.Tests.{leb-false, eqb-true, lt-ltb, le-leb, eq-eqb}
 use Rattle.ring.specs.declared.Ring.{Ring}
-use Rattle.bank.specs.declared.Queues.{Queues}
+use Rattle.bank.specs.Queues.{Queues, queuesIn}
 use Rattle.bank.specs.declared.Regs.{Regs}
 use Rattle.bank.specs.declared.Control.{Control}
 use Rattle.bank.specs.declared.Transfer.{Transfer}
 use Rattle.bank.specs.declared.Phase.{Phase}
 use Rattle.bank.specs.declared.Phase.the-variants.{Idle, Writing, Reading, Unrequested, Requested, Answered}
-use Rattle.bank.specs.Phases.{idle, writing, reading, assigning, requested, transfer, unattached, limit, partBytes}
+use Rattle.bank.specs.Phases.{idle, assigning, transfer, unattached, limit, partBytes}
 use Rattle.bank.specs.Bursts.{bursting}
-use Rattle.bank.specs.SetUp.{sizeOk}
+use Rattle.bank.specs.SetUp.{sizeOk, marksOk}
+use Rattle.bank.specs.declared.Counts.{Counts}
 use Rattle.bank.specs.Formed.{ringOk, queuesOk, regsOk, flagsOk, phaseOk, ringClear, queuesClear, controlClear, resetOk}
-use Rattle.bank.proofs.Bools.{or-left, and-true, true-and, three, five, all-three, all-five}
+use Rattle.bank.proofs.Bools.{and-true, true-and, three, five, all-three, all-five}
 use Rattle.bank.proofs.Laws.{ring-valid, rings-of, rings-are}
 use Rattle.registers.specs.Map.{registerAt}
 use Rattle.model.specs.declared.Call.{Call}
@@ -29,22 +29,21 @@ use Rattle.model.specs.View.{Queue, Cmd, Cmdr, Sdo, Sdi, Ibi, Five, of, 
 use Rattle.model.specs.Decision.{QueueOp, Decision, effect}
 use Rattle.model.specs.Commands.{Command, firstWord, isEntdaa, isRead, lengthOf, opened, begun}
 use Rattle.model.specs.Registers.{Cell, scratch, mask, ops, ibiConfig, devChar, offloadCmd, offloadSdo, Row, absent, shows, holds, pushes, takes, enables, acknowledges, row, storedRegs, storedTables, pending, clears, enable, read, write}
-use Rattle.model.specs.Calls.{command, attached, advanced, fresh, fills, start, send, receive, finish, interrupt, request, takeAddress}
+use Rattle.model.specs.Calls.{advanced, fresh, fills, start, send, receive, finish, interrupt, request, takeAddress}
 use Rattle.model.specs.Bursts.{trigger, burstSend, burstReceive, burstFinish, decide}
 use Rattle.model.specs.Rings.{Controller, viewQueues, viewRings, onRing, onRings}
 use Rattle.model.proofs.Tests.{Passed, of-two}
 use Rattle.model.proofs.Room.{Fits, AllFit}
-use Rattle.model.proofs.Rings.{cap-same, mark-same, valid-op}
-use Rattle.model.proofs.Phases.{writing-is, reading-is, requested-assigns}
+use Rattle.model.proofs.Rings.{cap-same, valid-op}
 
 -- ── Rings ─────────────────────────────────────────────────────────────────────────────────────────────────────
 ring-kept : (least : ℕ) (r : Ring) (o : QueueOp) → 1 ≤ least → Fits o (r .cap .0) (r .level .0) → ringOk least r ≡ true → ringOk least (onRing o r) ≡ true
 ring-kept least r o n f h =
     let g = valid-op o r (ring-valid least r n h) f in
-    let z = three (sizeOk least (r .cap .0) (r .mark .0)) (ltb (r .head) (r .cap .0)) (leb (r .level .0) (r .cap .0)) h in
+    let z = three (sizeOk least (r .cap .0)) (ltb (r .head) (r .cap .0)) (leb (r .level .0) (r .cap .0)) h in
     let r′ = onRing o r in
-    let y : sizeOk least (r′ .cap .0) (r′ .mark .0) ≡ true = rw (cap-same o r, mark-same o r) (z .0) in
-    all-three (sizeOk least (r′ .cap .0) (r′ .mark .0)) (ltb (r′ .head) (r′ .cap .0)) (leb (r′ .level .0) (r′ .cap .0)) y (lt-ltb (r′ .head) (r′ .cap .0) (g .head-below)) (le-leb (r′ .level .0) (r′ .cap .0) (g .level-most))
+    let y : sizeOk least (r′ .cap .0) ≡ true = rw (cap-same o r) (z .0) in
+    all-three (sizeOk least (r′ .cap .0)) (ltb (r′ .head) (r′ .cap .0)) (leb (r′ .level .0) (r′ .cap .0)) y (lt-ltb (r′ .head) (r′ .cap .0) (g .head-below)) (le-leb (r′ .level .0) (r′ .cap .0) (g .level-most))
 
 pub queues-kept : (q : Queues) (st : List ℕ) (o : Five QueueOp) → AllFit o (viewQueues q st) → queuesOk q ≡ true → queuesOk (onRings o q) ≡ true
 queues-kept q st o f h =
@@ -99,6 +98,15 @@ stored-regs devChar v g h = let z = regs-of g h in regs-ok _ (z .0) (z .1) (lt-l
 stored-regs (offloadCmd i) v g h = h
 stored-regs (offloadSdo i) v g h = h
 
+pub stored-marks : (c : Cell) (v : ℕ) (g : Regs) → storedRegs c v g .marks ≡ g .marks
+stored-marks scratch v g = refl
+stored-marks mask v g = refl
+stored-marks ops v g = refl
+stored-marks ibiConfig v g = refl
+stored-marks devChar v g = refl
+stored-marks (offloadCmd i) v g = refl
+stored-marks (offloadSdo i) v g = refl
+
 flags-set : (t : List ℕ) (i v : ℕ) → ltb v 8 ≡ true → flagsOk t ≡ true → flagsOk (set t i v) ≡ true
 unfolding flagsOk
 flags-set [] i v f h = h
@@ -120,42 +128,42 @@ stored-flags devChar v t h = flags-if (bit 8 v) (t .flags) (bits 15 9 v) (bits 3
 stored-flags (offloadCmd i) v t h = h
 stored-flags (offloadSdo i) v t h = h
 
--- a reset leaves both
-abbrev RegsFlags : Regs → List ℕ → Type 0
-RegsFlags g t = (regsOk g ≡ true) × (flagsOk t ≡ true)
+-- a reset leaves all three
+abbrev RegsFlags : Counts → Regs → List ℕ → Type 0
+RegsFlags k g t = (regsOk g ≡ true) × (marksOk (g .marks) k ≡ true) × (flagsOk t ≡ true)
 
-enable-kept : (s : View) (b : Bool) → RegsFlags (s .regs) (s .tables .flags) → RegsFlags (enable s b .regs) (enable s b .tables .flags)
+enable-kept : (k : Counts) (s : View) (b : Bool) → RegsFlags k (s .regs) (s .tables .flags) → RegsFlags k (enable s b .regs) (enable s b .tables .flags)
 unfolding enable
-enable-kept s true h = h
-enable-kept s false h = h
+enable-kept k s true h = h
+enable-kept k s false h = h
 
-write-kept : (s : View) (x : Row) (v : ℕ) → RegsFlags (s .regs) (s .tables .flags) → (let e = effect (write x s v) in RegsFlags (e .regs) (e .tables .flags))
-write-kept s absent v h = h
-write-kept s (shows f) v h = h
-write-kept s (holds c) v h = (stored-regs c v (s .regs) (h .0), stored-flags c v (s .tables) (h .1))
-write-kept s (pushes q) v h = h
-write-kept s (takes q) v h = h
-write-kept s enables v h = enable-kept s (bit 0 v) h
-write-kept s acknowledges v h = h
+write-kept : (k : Counts) (s : View) (x : Row) (v : ℕ) → RegsFlags k (s .regs) (s .tables .flags) → (let e = effect (write x s v) in RegsFlags k (e .regs) (e .tables .flags))
+write-kept k s absent v h = h
+write-kept k s (shows f) v h = h
+write-kept k s (holds c) v h = (stored-regs c v (s .regs) (h .0), rw (stored-marks c v (s .regs)) (h .1), stored-flags c v (s .tables) (h .2))
+write-kept k s (pushes q) v h = h
+write-kept k s (takes q) v h = h
+write-kept k s enables v h = enable-kept k s (bit 0 v) h
+write-kept k s acknowledges v h = h
 
-read-kept : (s : View) (x : Row) → RegsFlags (s .regs) (s .tables .flags) → (let e = effect (read x s) in RegsFlags (e .regs) (e .tables .flags))
-read-kept s x h = let u = read-untouched s x in rw (u .regsSame, u .tablesSame) h
+read-kept : (k : Counts) (s : View) (x : Row) → RegsFlags k (s .regs) (s .tables .flags) → (let e = effect (read x s) in RegsFlags k (e .regs) (e .tables .flags))
+read-kept k s x h = let u = read-untouched s x in rw (u .regsSame, u .tablesSame) h
 
-abbrev KeepsRegsFlags : View → Decision → Type 0
-KeepsRegsFlags s d = RegsFlags (effect d .regs) (effect d .tables .flags)
+abbrev KeepsRegsFlags : Counts → Decision → Type 0
+KeepsRegsFlags k d = RegsFlags k (effect d .regs) (effect d .tables .flags)
 
-pub regs-flags-kept : (s : View) (c : Call) → RegsFlags (s .regs) (s .tables .flags) → KeepsRegsFlags s (decide s c)
+pub regs-flags-kept : (k : Counts) (s : View) (c : Call) → RegsFlags k (s .regs) (s .tables .flags) → KeepsRegsFlags k (decide s c)
 unfolding start send receive finish interrupt request takeAddress trigger burstSend burstReceive burstFinish
-regs-flags-kept s (Read o) h = read-kept s (row (registerAt o)) h
-regs-flags-kept s (Write o v) h = write-kept s (row (registerAt o)) v h
-regs-flags-kept s Start h = h
-regs-flags-kept s Send h = of-two (KeepsRegsFlags s) (bursting (s .control)) (burstSend s) (send s) (λ e. h) (λ e. h)
-regs-flags-kept s (Receive b) h = of-two (KeepsRegsFlags s) (bursting (s .control)) (burstReceive s b) (receive s b) (λ e. h) (λ e. h)
-regs-flags-kept s (Finish code) h = of-two (KeepsRegsFlags s) (bursting (s .control)) (burstFinish s code) (finish s code) (λ e. h) (λ e. h)
-regs-flags-kept s (Interrupt a b) h = h
-regs-flags-kept s (Request v w) h = h
-regs-flags-kept s Take h = h
-regs-flags-kept s Trigger h = h
+regs-flags-kept k s (Read o) h = read-kept k s (row (registerAt o)) h
+regs-flags-kept k s (Write o v) h = write-kept k s (row (registerAt o)) v h
+regs-flags-kept k s Start h = h
+regs-flags-kept k s Send h = of-two (KeepsRegsFlags k) (bursting (s .control)) (burstSend s) (send s) (λ e. h) (λ e. h)
+regs-flags-kept k s (Receive b) h = of-two (KeepsRegsFlags k) (bursting (s .control)) (burstReceive s b) (receive s b) (λ e. h) (λ e. h)
+regs-flags-kept k s (Finish code) h = of-two (KeepsRegsFlags k) (bursting (s .control)) (burstFinish s code) (finish s code) (λ e. h) (λ e. h)
+regs-flags-kept k s (Interrupt a b) h = h
+regs-flags-kept k s (Request v w) h = h
+regs-flags-kept k s Take h = h
+regs-flags-kept k s Trigger h = h
 
 -- ── Phase ─────────────────────────────────────────────────────────────────────────────────────────────────────
 -- its three tests
@@ -324,12 +332,12 @@ clear-queues : (q : Queues) → queuesClear q ≡ true → (ringClear (q .cmd) �
 unfolding queuesClear
 clear-queues q h = five (ringClear (q .cmd)) (ringClear (q .cmdr)) (ringClear (q .sdo)) (ringClear (q .sdi)) (ringClear (q .ibi)) h
 
-clear-at : (l : Controller) (q : Queue) → queuesClear (l .bank .state .queues) ≡ true → eqb (of q (viewRings l .queues) .level) 0 ≡ false → ⊥
-clear-at l Cmd c f = none-there (l .bank .state .queues .cmd) (clear-queues (l .bank .state .queues) c .0) f
-clear-at l Cmdr c f = none-there (l .bank .state .queues .cmdr) (clear-queues (l .bank .state .queues) c .1) f
-clear-at l Sdo c f = none-there (l .bank .state .queues .sdo) (clear-queues (l .bank .state .queues) c .2) f
-clear-at l Sdi c f = none-there (l .bank .state .queues .sdi) (clear-queues (l .bank .state .queues) c .3) f
-clear-at l Ibi c f = none-there (l .bank .state .queues .ibi) (clear-queues (l .bank .state .queues) c .4) f
+clear-at : (l : Controller) (q : Queue) → queuesClear (queuesIn (l .bank)) ≡ true → eqb (of q (viewRings l .queues) .level) 0 ≡ false → ⊥
+clear-at l Cmd c f = none-there (queuesIn (l .bank) .cmd) (clear-queues (queuesIn (l .bank)) c .0) f
+clear-at l Cmdr c f = none-there (queuesIn (l .bank) .cmdr) (clear-queues (queuesIn (l .bank)) c .1) f
+clear-at l Sdo c f = none-there (queuesIn (l .bank) .sdo) (clear-queues (queuesIn (l .bank)) c .2) f
+clear-at l Sdi c f = none-there (queuesIn (l .bank) .sdi) (clear-queues (queuesIn (l .bank)) c .3) f
+clear-at l Ibi c f = none-there (queuesIn (l .bank) .ibi) (clear-queues (queuesIn (l .bank)) c .4) f
 
 clears-held : (q : Queue) (b : Bool) (c : Control) → clears q b c .held ≡ c .held
 clears-held Cmd b c = refl
@@ -340,10 +348,10 @@ clears-held Ibi b c = refl
 
 -- a row keeps what holds in reset: there nothing can be taken or pushed
 abbrev ResetOk : Controller → Control → Phase → Five QueueOp → Type 0
-ResetOk l c p o = resetOk c p (onRings o (l .bank .state .queues)) ≡ true
+ResetOk l c p o = resetOk c p (onRings o (queuesIn (l .bank))) ≡ true
 
 abbrev Before : Controller → Type 0
-Before l = resetOk (l .bank .state .control) (l .bank .state .phase) (l .bank .state .queues) ≡ true
+Before l = resetOk (l .bank .state .control) (l .bank .state .phase) (queuesIn (l .bank)) ≡ true
 
 read-reset : (l : Controller) (x : Row) → Passed (read x (viewRings l)) → Before l → (let e = effect (read x (viewRings l)) in ResetOk l (e .control) (e .phase) (e .ops))
 unfolding onRing
@@ -351,7 +359,7 @@ read-reset l absent e h = h
 read-reset l (shows f) e h = h
 read-reset l (holds c) e h = h
 read-reset l (pushes q) e h = h
-read-reset l (takes q) e h = reset-ok (l .bank .state .control) _ (l .bank .state .phase) _ (l .bank .state .queues) _ (clears-held q _ (l .bank .state .control)) refl (λ c d. absurd (clear-at l q c (e .0))) h
+read-reset l (takes q) e h = reset-ok (l .bank .state .control) _ (l .bank .state .phase) _ (queuesIn (l .bank)) _ (clears-held q _ (l .bank .state .control)) refl (λ c d. absurd (clear-at l q c (e .0))) h
 read-reset l enables e h = h
 read-reset l acknowledges e h = h
 
@@ -368,7 +376,7 @@ write-reset l (holds c) v f h = h
 write-reset l (pushes q) v f h = released-ok _ _ _ (clears-held q true (l .bank .state .control) ∙ f .0)
 write-reset l (takes q) v f h = h
 write-reset l enables v f h = enable-reset l (bit 0 v)
-write-reset l acknowledges v f h = reset-ok (l .bank .state .control) _ (l .bank .state .phase) _ (l .bank .state .queues) _ refl refl (λ c d. (c, pending-clear (l .bank .state .control) (not (bit 5 v)) (not (bit 6 v)) (not (bit 7 v)) d)) h
+write-reset l acknowledges v f h = reset-ok (l .bank .state .control) _ (l .bank .state .phase) _ (queuesIn (l .bank)) _ refl refl (λ c d. (c, pending-clear (l .bank .state .control) (not (bit 5 v)) (not (bit 6 v)) (not (bit 7 v)) d)) h
 
 -- a call behind the test 5 is made in no reset
 abbrev KeepsReset : Controller → Decision → Type 0

@@ -495,7 +495,7 @@ logged-grows (c ∷ cs) g m =
 -- l before the trigger, m now
 pub record Inside (l m : Controller) (g : Log) : Type 0 where
   pub formed : wellFormed (m .bank) ≡ true
-  pub size : length (m .store) ≡ total (m .bank .state .queues)
+  pub size : length (m .store) ≡ total (m .bank .state .caps)
   pub going : GoesOn l (viewRings m) g
 
 pub inside-opened : (l m : Controller) (g : Log) → Inside l m g → Opened (viewRings m)
@@ -551,7 +551,7 @@ triggered-goes l f =
 pub triggered : (l : Controller) → step rings l Trigger .answer .number ≡ 0 → Inside l (step rings l Trigger .next) unbegun
 triggered l n =
     let h = served l Trigger n in
-    let s = stays-sound l (listed l) Trigger (record { is = refl; formed = formed-of (l .bank) (h .0); size = eqb-true (length (l .store)) (total (l .bank .state .queues)) (h .1) }) in
+    let s = stays-sound l (listed l) Trigger (record { is = refl; formed = formed-of (l .bank) (h .0); size = eqb-true (length (l .store)) (total (l .bank .state .caps)) (h .1) }) in
     record {
       formed = formed-is (step rings l Trigger .next .bank) (s .formed);
       size = s .size;

@@ -131,8 +131,8 @@ words-shorter w cap q q′ l h = record { seen = h .seen; promised = h .promised
 
 -- ── A start ───────────────────────────────────────────────────────────────────────────────────────────────────
 -- a command queue of these words
-abbrev pub cmdView : ℕ → ℕ → List ℕ → QueueView
-cmdView cap mark q = viewList (record { cap = cap; mark = mark; words = q })
+abbrev pub cmdView : ℕ → List ℕ → QueueView
+cmdView cap q = viewList (record { cap = cap; words = q })
 
 -- it takes the first command's words from the queue
 pub record Begins (q : List ℕ) (c : Command) (rest : List ℕ) : Type 0 where
@@ -140,19 +140,19 @@ pub record Begins (q : List ℕ) (c : Command) (rest : List ℕ) : Type 0 where
   pub all : joined (c ∷ []) ++ rest ≡ q
   pub shorter : length rest ≤ length q
 
-begins-one : (cap mark w : ℕ) → twoWords w ≡ false → Begins (w ∷ []) (command (cmdView cap mark (w ∷ []))) (drop (wordCount (cmdView cap mark (w ∷ []))) (w ∷ []))
+begins-one : (cap w : ℕ) → twoWords w ≡ false → Begins (w ∷ []) (command (cmdView cap (w ∷ []))) (drop (wordCount (cmdView cap (w ∷ []))) (w ∷ []))
 unfolding joined
-begins-one cap mark w e = record { cutAs = rw e e; all = rw e; shorter = rw e zero-le }
+begins-one cap w e = record { cutAs = rw e e; all = rw e; shorter = rw e zero-le }
 
-begins-two : (cap mark w c : ℕ) (ws : List ℕ) (b : Bool) → twoWords w ≡ b → Begins (w ∷ c ∷ ws) (command (cmdView cap mark (w ∷ c ∷ ws))) (drop (wordCount (cmdView cap mark (w ∷ c ∷ ws))) (w ∷ c ∷ ws))
+begins-two : (cap w c : ℕ) (ws : List ℕ) (b : Bool) → twoWords w ≡ b → Begins (w ∷ c ∷ ws) (command (cmdView cap (w ∷ c ∷ ws))) (drop (wordCount (cmdView cap (w ∷ c ∷ ws))) (w ∷ c ∷ ws))
 unfolding joined
-begins-two cap mark w c ws true e = record { cutAs = rw e e; all = rw e; shorter = rw e (omega arith) }
-begins-two cap mark w c ws false e = record { cutAs = rw e e; all = rw e; shorter = rw e (omega arith) }
+begins-two cap w c ws true e = record { cutAs = rw e e; all = rw e; shorter = rw e (omega arith) }
+begins-two cap w c ws false e = record { cutAs = rw e e; all = rw e; shorter = rw e (omega arith) }
 
-begins : (cap mark : ℕ) (q : List ℕ) → whole (cmdView cap mark q) ≡ true → Begins q (command (cmdView cap mark q)) (drop (wordCount (cmdView cap mark q)) q)
-begins cap mark [] e = absurd (false≢true e)
-begins cap mark (w ∷ []) e = begins-one cap mark w (not-true (twoWords w) e)
-begins cap mark (w ∷ c ∷ ws) e = begins-two cap mark w c ws (twoWords w) refl
+begins : (cap : ℕ) (q : List ℕ) → whole (cmdView cap q) ≡ true → Begins q (command (cmdView cap q)) (drop (wordCount (cmdView cap q)) q)
+begins cap [] e = absurd (false≢true e)
+begins cap (w ∷ []) e = begins-one cap w (not-true (twoWords w) e)
+begins cap (w ∷ c ∷ ws) e = begins-two cap w c ws (twoWords w) refl
 
 fitting-new : (v : ℕ) (c : Command) → Fitting (newRun v) c
 fitting-new v c = record { sends = λ _. refl; receives = λ _. refl; addresses = λ _. refl }
@@ -259,10 +259,10 @@ module _ (w : CmdLog) (past : List Run) (got : List ℕ) (cap : ℕ) (p : Phase)
   pub inv-room : (now : Option Run) → Inv w past now got cap p cmd cmdr sync → Inv (countWord w (sawRoom (cap - length cmd))) past now got cap p cmd cmdr sync
   inv-room now h = record { words = words-room w cap cmd (h .words); order = h .order; receipts = h .receipts }
 
-  pub inv-start : (now : Option Run) (mark : ℕ) (a : Bool) → idle p ≡ true → whole (cmdView cap mark cmd) ≡ true → Inv w past now got cap p cmd cmdr sync → (let c = command (cmdView cap mark cmd) in Inv w (past ++ opt now) (some (newRun (firstWord c))) got cap (begun c a) (drop (wordCount (cmdView cap mark cmd)) cmd) cmdr sync)
-  inv-start now mark a i f h =
-      let c = command (cmdView cap mark cmd) in
-      let k = begins cap mark cmd f in
+  pub inv-start : (now : Option Run) (a : Bool) → idle p ≡ true → whole (cmdView cap cmd) ≡ true → Inv w past now got cap p cmd cmdr sync → (let c = command (cmdView cap cmd) in Inv w (past ++ opt now) (some (newRun (firstWord c))) got cap (begun c a) (drop (wordCount (cmdView cap cmd)) cmd) cmdr sync)
+  inv-start now a i f h =
+      let c = command (cmdView cap cmd) in
+      let k = begins cap cmd f in
       record {
         words = words-shorter w cap cmd _ (k .shorter) (h .words);
         order = order-start (takenWords (w .written)) past now p (begun c a) cmd _ (newRun (firstWord c)) c i (h .order) k (begun-open c a (k .cutAs));

@@ -9,7 +9,9 @@ use lib.ListN.{length, set, length-set}
 use borrow.Author.Tests.{ne-eqb, eqb-true}
 use Rattle.ring.specs.Ring.{entries}
 use Rattle.bank.specs.declared.Bank.{Bank}
+use Rattle.bank.specs.declared.Regs.{Regs}
 use Rattle.bank.specs.declared.Sizes.{Sizes}
+use Rattle.bank.specs.Queues.{queuesIn}
 use Rattle.bank.specs.SetUp.{setUp, total}
 use Rattle.bank.specs.Formed.{wellFormed}
 use Rattle.bank.specs.Phases.{reading, transfer}
@@ -29,35 +31,35 @@ use Rattle.model.specs.Bursts.{trigger, burstSend, burstReceive, burstFi
 use Rattle.model.specs.Engine.{Step, outcome, step, Lent, stepLent, final, answers}
 use Rattle.model.specs.Rings.{Controller, Area, areas, wordsIn, viewRings, onRing, settleRings, guardRings, rings}
 use Rattle.model.specs.Lists.{Lists, lists, onWords}
-use Rattle.model.specs.Laws.{fresh, freshLists, EnginesAgree, RefusalChangesNothing, StoreKeepsLength, OutputKeepsLength, same, readNames, writeNames, names, OthersStay}
+use Rattle.model.specs.Laws.{fresh, freshLists, EnginesAgree, RefusalChangesNothing, StoreKeepsLength, OutputKeepsLength, WatermarksStay, same, readNames, writeNames, names, OthersStay}
 use Rattle.model.proofs.Tests.{Passed, passed, of-two, Refusal, refusal}
 use Rattle.model.proofs.Numbers.{zeroOr19, effect-number, all-refusals}
 use Rattle.model.proofs.Room.{fits}
-use Rattle.model.proofs.Formed.{read-untouched}
+use Rattle.model.proofs.Formed.{read-untouched, stored-marks}
 use Rattle.model.proofs.Rings.{listed, length-all, base-same, settled-words, onArea}
 use Rattle.model.proofs.Simulation.{Sound, lent-same, lent-stays, same-final}
 
 -- ── A step is refused by a number, or settled ─────────────────────────────────────────────────────────────────
 -- what the two tests of the bank leave to decide
-by-guard : (P : Option ℕ → Type 0) (l : Controller) (d : Decision) → ((n : ℕ) → Refusal n → P (some n)) → (wellFormed (l .bank) ≡ true → length (l .store) ≡ total (l .bank .state .queues) → P (first d)) → P (first (guardRings l d))
+by-guard : (P : Option ℕ → Type 0) (l : Controller) (d : Decision) → ((n : ℕ) → Refusal n → P (some n)) → (wellFormed (l .bank) ≡ true → length (l .store) ≡ total (l .bank .state .caps) → P (first d)) → P (first (guardRings l d))
 unfolding guardRings
-by-guard P l d r s = go (wellFormed (l .bank)) (eqb (length (l .store)) (total (l .bank .state .queues))) refl refl
+by-guard P l d r s = go (wellFormed (l .bank)) (eqb (length (l .store)) (total (l .bank .state .caps))) refl refl
   where
-    go : (a b : Bool) → wellFormed (l .bank) ≡ a → eqb (length (l .store)) (total (l .bank .state .queues)) ≡ b → P (cond (not a) (some 21) (cond (not b) (some 22) (first d)))
+    go : (a b : Bool) → wellFormed (l .bank) ≡ a → eqb (length (l .store)) (total (l .bank .state .caps)) ≡ b → P (cond (not a) (some 21) (cond (not b) (some 22) (first d)))
     go false b e f = r 21 (record { not0 = refl; not19 = refl })
     go true false e f = r 22 (record { not0 = refl; not19 = refl })
-    go true true e f = s e (eqb-true (length (l .store)) (total (l .bank .state .queues)) f)
+    go true true e f = s e (eqb-true (length (l .store)) (total (l .bank .state .caps)) f)
 
 -- a property of the outcome holds where it holds of every refusal and of the settled call
 module _ (P : Step Controller → Type 0) (l : Controller) (c : Call) where
   abbrev pub Q : Option ℕ → Type 0
   Q n = P (outcome n (effect (decide (viewRings l) c)) l (settleRings l (effect (decide (viewRings l) c))))
 
-  pub by-outcome : ((n : ℕ) → Refusal n → Q (some n)) → (wellFormed (l .bank) ≡ true → length (l .store) ≡ total (l .bank .state .queues) → Passed (decide (viewRings l) c) → Q none) → P (step rings l c)
+  pub by-outcome : ((n : ℕ) → Refusal n → Q (some n)) → (wellFormed (l .bank) ≡ true → length (l .store) ≡ total (l .bank .state .caps) → Passed (decide (viewRings l) c) → Q none) → P (step rings l c)
   unfolding step guardRings
   by-outcome r s = by-guard Q l (decide (viewRings l) c) r (λ f z. go f z (first (decide (viewRings l) c)) refl)
     where
-      go : wellFormed (l .bank) ≡ true → length (l .store) ≡ total (l .bank .state .queues) → (n : Option ℕ) → first (decide (viewRings l) c) ≡ n → Q n
+      go : wellFormed (l .bank) ≡ true → length (l .store) ≡ total (l .bank .state .caps) → (n : Option ℕ) → first (decide (viewRings l) c) ≡ n → Q n
       go f z none e = s f z (passed (decide (viewRings l) c) e)
       go f z (some n) e = r n (refusal (decide (viewRings l) c) n (all-refusals (viewRings l) c) e)
 
@@ -72,7 +74,7 @@ refusal-changes-nothing l c =
 
 pub store-keeps-length : StoreKeepsLength
 unfolding StoreKeepsLength
-store-keeps-length l c = by-outcome (λ r. length (r .next .store) ≡ length (l .store)) l c (λ n k. refl) (λ f z p. length-all (effect (decide (viewRings l) c) .ops) (areas (l .bank .state .queues)) (l .store))
+store-keeps-length l c = by-outcome (λ r. length (r .next .store) ≡ length (l .store)) l c (λ n k. refl) (λ f z p. length-all (effect (decide (viewRings l) c) .ops) (areas (queuesIn (l .bank))) (l .store))
 
 -- ── The output ────────────────────────────────────────────────────────────────────────────────────────────────
 stored-output : (c : Cell) (v : ℕ) (t : Tables) → storedTables c v t .output ≡ t .output
@@ -122,6 +124,41 @@ output-length s Trigger = refl
 pub output-keeps-length : OutputKeepsLength
 unfolding OutputKeepsLength
 output-keeps-length l c = by-outcome (λ r. length (r .next .output) ≡ length (l .output)) l c (λ n k. refl) (λ f z p. output-length (viewRings l) c)
+
+-- ── The watermarks ────────────────────────────────────────────────────────────────────────────────────────────
+enable-marks : (s : View) (b : Bool) → enable s b .regs .marks ≡ s .regs .marks
+unfolding enable
+enable-marks s true = refl
+enable-marks s false = refl
+
+write-marks : (s : View) (x : Row) (v : ℕ) → effect (write x s v) .regs .marks ≡ s .regs .marks
+write-marks s absent v = refl
+write-marks s (shows f) v = refl
+write-marks s (holds c) v = stored-marks c v (s .regs)
+write-marks s (pushes q) v = refl
+write-marks s (takes q) v = refl
+write-marks s enables v = enable-marks s (bit 0 v)
+write-marks s acknowledges v = refl
+
+abbrev KeepsMarks : View → Decision → Type 0
+KeepsMarks s d = effect d .regs .marks ≡ s .regs .marks
+
+marks-kept : (s : View) (c : Call) → KeepsMarks s (decide s c)
+unfolding start send receive finish interrupt request takeAddress trigger burstSend burstReceive burstFinish
+marks-kept s (Read o) = ap (λ (g : Regs). g .marks) (read-untouched s (row (registerAt o)) .regsSame)
+marks-kept s (Write o v) = write-marks s (row (registerAt o)) v
+marks-kept s Start = refl
+marks-kept s Send = of-two (KeepsMarks s) (bursting (s .control)) (burstSend s) (send s) (λ e. refl) (λ e. refl)
+marks-kept s (Receive b) = of-two (KeepsMarks s) (bursting (s .control)) (burstReceive s b) (receive s b) (λ e. refl) (λ e. refl)
+marks-kept s (Finish code) = of-two (KeepsMarks s) (bursting (s .control)) (burstFinish s code) (finish s code) (λ e. refl) (λ e. refl)
+marks-kept s (Interrupt a b) = refl
+marks-kept s (Request v w) = refl
+marks-kept s Take = refl
+marks-kept s Trigger = refl
+
+pub watermarks-stay : WatermarksStay
+unfolding WatermarksStay
+watermarks-stay l c = by-outcome (λ r. r .next .bank .state .regs .marks ≡ l .bank .state .regs .marks) l c (λ n k. refl) (λ f z p. marks-kept (viewRings l) c)
 
 -- ── Queues that a call does not name ──────────────────────────────────────────────────────────────────────────
 kept-all : (k : Queue) → of k keepAll ≡ keep
@@ -211,10 +248,10 @@ area-kept o a e = ap (λ (x : QueueOp). onArea x a) e
 pub others-stay : OthersStay
 unfolding OthersStay
 others-stay l c k h =
-    by-outcome (λ r. (of k (areas (r .next .bank .state .queues)) ≡ of k (areas (l .bank .state .queues))) × (wordsIn (of k (areas (r .next .bank .state .queues))) (r .next .store) ≡ wordsIn (of k (areas (l .bank .state .queues))) (l .store))) l c
+    by-outcome (λ r. (of k (areas (queuesIn (r .next .bank))) ≡ of k (areas (queuesIn (l .bank)))) × (wordsIn (of k (areas (queuesIn (r .next .bank)))) (r .next .store) ≡ wordsIn (of k (areas (queuesIn (l .bank)))) (l .store))) l c
     (λ n r. (refl, refl))
     (λ f z p.
-    let q = l .bank .state .queues in
+    let q = queuesIn (l .bank) in
     let o = effect (decide (viewRings l) c) .ops in
     let r = ready q (l .store) (formed-of (l .bank) f .queues) z in
     let e = keeps (viewRings l) c k h in
@@ -226,17 +263,17 @@ unfolding answers
 same-answers [] l m h = refl
 same-answers (c ∷ cs) l m h = ap₂ (λ (a : Answer) (r : List Answer). a ∷ r) (lent-same l m c h) (same-answers cs (stepLent rings l c .next) (stepLent lists m c .next) (lent-stays l m c h))
 
-listed-words : (l : Controller) (k : Queue) → of k (listed l .queues) .words ≡ wordsIn (of k (areas (l .bank .state .queues))) (l .store)
+listed-words : (l : Controller) (k : Queue) → of k (listed l .queues) .words ≡ wordsIn (of k (areas (queuesIn (l .bank)))) (l .store)
 listed-words l Cmd = refl
 listed-words l Cmdr = refl
 listed-words l Sdo = refl
 listed-words l Sdi = refl
 listed-words l Ibi = refl
 
-pub fresh-sound : (caps marks : Sizes) (id : ℕ) (store : List ℕ) → setUp caps marks id .answer .number ≡ 0 → length store ≡ total (setUp caps marks id .bank .state .queues) → Sound (fresh caps marks id store) (freshLists caps marks id)
+pub fresh-sound : (caps marks : Sizes) (id : ℕ) (store : List ℕ) → setUp caps marks id .answer .number ≡ 0 → length store ≡ total (setUp caps marks id .bank .state .caps) → Sound (fresh caps marks id store) (freshLists caps marks id)
 unfolding entries
 fresh-sound caps marks id store n z =
-    subst (λ (b : Bank). length store ≡ total (b .state .queues) → Sound (record { bank = b; store = store; output = [] }) (record { regs = b .state .regs; control = b .state .control; phase = b .state .phase; tables = record { flags = b .flags; commands = b .commands; payloads = b .payloads; output = [] }; queues = freshLists caps marks id .queues })) (sym (bank-is caps marks id n))
+    subst (λ (b : Bank). length store ≡ total (b .state .caps) → Sound (record { bank = b; store = store; output = [] }) (record { regs = b .state .regs; control = b .state .control; phase = b .state .phase; tables = record { flags = b .flags; commands = b .commands; payloads = b .payloads; output = [] }; queues = freshLists caps marks id .queues })) (sym (bank-is caps marks id n))
     (λ y. record { is = refl; formed = fresh-formed caps marks id n; size = y })
     z
 

@@ -13,6 +13,7 @@ pub mod Strays
 pub mod ListDemand
 pub mod Simulation
 pub mod Laws
+pub mod Accesses
 pub mod Demand
 pub mod Cases
 pub mod Driver

@@ -7,21 +7,21 @@ use mathlib.Core.List.{List}
 use lib.Dec.{leb, ltb, eqb, leb·zero}
 use lib.ListN.{getD, set}
 use lib.Count.{ones}
-use borrow.Author.Tests.{leb-true, leb-false, ltb-true, eqb-true, eqb-false, not-false, not-true, lt-ltb, le-leb, eq-eqb, ne-eqb}
+use borrow.Author.Tests.{leb-true, leb-false, eqb-true, eqb-false, not-false, not-true, lt-ltb, le-leb, eq-eqb, ne-eqb}
 use Rattle.bank.specs.declared.Regs.{Regs}
 use Rattle.bank.specs.declared.Control.{Control}
 use Rattle.bank.specs.declared.Transfer.{Transfer}
 use Rattle.bank.specs.declared.Phase.{Phase}
 use Rattle.bank.specs.declared.Phase.the-variants.{Idle, Writing, Reading, Unrequested, Requested, Answered}
 use Rattle.bank.specs.Bits.{bit, bits, weigh}
-use Rattle.bank.specs.Phases.{stage, idle, writing, reading, assigning, requested, transfer, private, unattached, limit, partBytes}
+use Rattle.bank.specs.Phases.{stage, idle, writing, reading, assigning, requested, transfer, private, unattached, limit}
 use Rattle.bank.specs.Bursts.{offloads, span, carried, allCarried, bursting, place, opens, gatheredBytes}
 use Rattle.bank.specs.Formed.{transferOk, phaseOk, burstOk, openOk}
-use Rattle.bank.proofs.Bools.{or-left, and-true, true-and, three, five, all-three, all-five}
+use Rattle.bank.proofs.Bools.{or-left, and-true, three, five, all-three, all-five}
 use Rattle.registers.specs.Map.{registerAt}
 use Rattle.model.specs.declared.Call.{Call}
 use Rattle.model.specs.declared.Call.the-variants.{Read, Write, Start, Send, Receive, Finish, Interrupt, Request, Take, Trigger}
-use Rattle.model.specs.View.{Queue, Tables, View}
+use Rattle.model.specs.View.{Tables, View}
 use Rattle.model.specs.Decision.{Decision, effect}
 use Rattle.model.specs.Commands.{Single, isEntdaa, isRead, kindOf, lengthOf, opened, begun}
 use Rattle.model.specs.Registers.{Cell, scratch, mask, ops, ibiConfig, devChar, offloadCmd, offloadSdo, Row, absent, shows, holds, pushes, takes, enables, acknowledges, row, storedRegs, storedTables, burstHolds, clears, enable, read, write}
@@ -101,7 +101,7 @@ staged false (Requested t) e = absurd (false≢true e)
 staged true (Answered t) e = absurd (false≢true e)
 staged false (Answered t) e = absurd (false≢true e)
 
-in-burst : (c : Control) (g : Regs) (p : Phase) (ws : List ℕ) → bursting c ≡ true → openOk c g p ws ≡ true → (idle p ≡ false) × (assigning p ≡ false)
+pub in-burst : (c : Control) (g : Regs) (p : Phase) (ws : List ℕ) → bursting c ≡ true → openOk c g p ws ≡ true → (idle p ≡ false) × (assigning p ≡ false)
 in-burst c g p ws e h =
     let w = getD ws (place c) 0 in
     staged (bit 0 w) p (opens-parts w p (burst-parts c g p ws (burst-of c g p ws e h) .opens) .stage)

@@ -9,7 +9,7 @@ use Rattle.ring.specs.declared.Ring.{Ring}
 use Rattle.ring.specs.declared.Words.{Words}
 use Rattle.ring.specs.Ring.{Valid, placeOf, pushedOf, entries}
 use Rattle.ring.proofs.Laws.{place-below, entries-length, entries-push, entries-take, entries-clear, entries-other, valid-push, valid-take, valid-clear}
-use Rattle.bank.specs.declared.Queues.{Queues}
+use Rattle.bank.specs.Queues.{Queues, queuesIn, capsOf}
 use Rattle.bank.specs.SetUp.{total}
 use Rattle.bank.proofs.Laws.{Ready}
 use Rattle.model.specs.View.{Queue, Cmd, Cmdr, Sdo, Sdi, Ibi, Five, each, of}
@@ -20,23 +20,23 @@ use Rattle.model.proofs.Room.{Fits, AllFit, by-queue}
 
 -- ── The lists that the rings hold ─────────────────────────────────────────────────────────────────────────────
 abbrev pub listQueue : Area → List ℕ → ListQueue
-listQueue a st = record { cap = a .ring .cap .0; mark = a .ring .mark .0; words = wordsIn a st }
+listQueue a st = record { cap = a .ring .cap .0; words = wordsIn a st }
 
 abbrev pub listed : Controller → Lists
 listed l =
     let v = viewRings l in
-    let a = areas (l .bank .state .queues) in
+    let a = areas (queuesIn (l .bank)) in
     let st = l .store in
     record { regs = v .regs; control = v .control; phase = v .phase; tables = v .tables; queues = each (listQueue (a .cmd) st) (listQueue (a .cmdr) st) (listQueue (a .sdo) st) (listQueue (a .sdi) st) (listQueue (a .ibi) st) }
 
 area-same : (a : Area) (st : List ℕ) → viewArea a st ≡ viewList (listQueue a st)
-area-same a st = λ i. record { cap = a .ring .cap .0; mark = a .ring .mark .0; level = sym (entries-length (a .ring) (a .base) st) i; first = getD (wordsIn a st) 0 0; second = getD (wordsIn a st) 1 0 }
+area-same a st = λ i. record { cap = a .ring .cap .0; level = sym (entries-length (a .ring) (a .base) st) i; first = getD (wordsIn a st) 0 0; second = getD (wordsIn a st) 1 0 }
 
 -- both engines show the same
 pub view-same : (l : Controller) → viewRings l ≡ viewLists (listed l)
 view-same l =
     let v = viewRings l in
-    let a = areas (l .bank .state .queues) in
+    let a = areas (queuesIn (l .bank)) in
     let st = l .store in
     λ i. record { regs = v .regs; control = v .control; phase = v .phase; tables = v .tables; queues = each (area-same (a .cmd) st i) (area-same (a .cmdr) st i) (area-same (a .sdo) st i) (area-same (a .sdi) st i) (area-same (a .ibi) st i) }
 
@@ -48,14 +48,6 @@ cap-same clear r = refl
 cap-same (take k) r = refl
 cap-same (push w) r = refl
 cap-same (push2 v w) r = refl
-
-pub mark-same : (o : QueueOp) (r : Ring) → onRing o r .mark ≡ r .mark
-unfolding onRing
-mark-same keep r = refl
-mark-same clear r = refl
-mark-same (take k) r = refl
-mark-same (push w) r = refl
-mark-same (push2 v w) r = refl
 
 pub valid-op : (o : QueueOp) (r : Ring) → Valid r → Fits o (r .cap .0) (r .level .0) → Valid (onRing o r)
 unfolding onRing
@@ -143,7 +135,7 @@ one-queue before o a after st f h l d e =
     ∙ ap (onWords o) (all-elsewhere before st (a .ring) (a .base) f d)
 
 list-op : (o : QueueOp) (a : Area) (st st′ : List ℕ) → wordsIn (onArea o a) st′ ≡ onWords o (wordsIn a st) → listQueue (onArea o a) st′ ≡ onList o (listQueue a st)
-list-op o a st st′ e = λ i. record { cap = cap-same o (a .ring) i .0; mark = mark-same o (a .ring) i .0; words = e i }
+list-op o a st st′ e = λ i. record { cap = cap-same o (a .ring) i .0; words = e i }
 
 -- ── The five queues of a call ─────────────────────────────────────────────────────────────────────────────────
 pub length-all : (o : Five QueueOp) (a : Five Area) (st : List ℕ) → length (onStores o a st) ≡ length st
@@ -163,8 +155,11 @@ module _ (q : Queues) (st : List ℕ) (o : Five QueueOp) (f : Ready q st) where
       (λ i. area (onRing (o .sdi) (q .sdi)) (a i .0 + b i .0 + c i .0))
       (λ i. area (onRing (o .ibi) (q .ibi)) (a i .0 + b i .0 + c i .0 + d i .0))
 
-  pub total-same : total (onRings o q) ≡ total q
-  total-same = rw (cap-same (o .cmd) (q .cmd), cap-same (o .cmdr) (q .cmdr), cap-same (o .sdo) (q .sdo), cap-same (o .sdi) (q .sdi), cap-same (o .ibi) (q .ibi))
+  pub caps-same : capsOf (onRings o q) ≡ capsOf q
+  caps-same = λ i. record { cmd = cap-same (o .cmd) (q .cmd) i; cmdr = cap-same (o .cmdr) (q .cmdr) i; sdo = cap-same (o .sdo) (q .sdo) i; sdi = cap-same (o .sdi) (q .sdi) i; ibi = cap-same (o .ibi) (q .ibi) i }
+
+  pub total-same : total (capsOf (onRings o q)) ≡ total (capsOf q)
+  total-same = ap total caps-same
 
   module _ (h : AllFit o (viewQueues q st)) where
     words-same : (k : Queue) → wordsIn (onArea (of k o) (of k (areas q))) (onStores o (areas q) st) ≡ onWords (of k o) (wordsIn (of k (areas q)) st)
@@ -202,7 +197,7 @@ module _ (q : Queues) (st : List ℕ) (o : Five QueueOp) (f : Ready q st) where
     queue-same k = ap (λ (a : Area). listQueue a (onStores o (areas q) st)) (base-same k) ∙ list-op (of k o) (of k (areas q)) st (onStores o (areas q) st) (words-same k)
 
 -- one settled call: what the rings then hold is what the lists then are
-pub settled-same : (l : Controller) (e : Effect) → Ready (l .bank .state .queues) (l .store) → AllFit (e .ops) (viewRings l .queues) → listed (settleRings l e) ≡ settleLists (listed l) e
+pub settled-same : (l : Controller) (e : Effect) → Ready (queuesIn (l .bank)) (l .store) → AllFit (e .ops) (viewRings l .queues) → listed (settleRings l e) ≡ settleLists (listed l) e
 settled-same l e f h =
-    let p = queue-same (l .bank .state .queues) (l .store) (e .ops) f h in
+    let p = queue-same (queuesIn (l .bank)) (l .store) (e .ops) f h in
     λ i. record { regs = e .regs; control = e .control; phase = e .phase; tables = e .tables; queues = each (p Cmd i) (p Cmdr i) (p Sdo i) (p Sdi i) (p Ibi i) }

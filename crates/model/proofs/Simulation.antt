@@ -8,6 +8,7 @@ use lib.Dec.{eqb}
 use lib.ListN.{length}
 use borrow.Author.Tests.{eq-eqb, eqb-true, eqb-false}
 use Rattle.bank.specs.declared.Bank.{Bank}
+use Rattle.bank.specs.Queues.{queuesIn}
 use Rattle.bank.specs.SetUp.{bankOf, total}
 use Rattle.bank.specs.Formed.{wellFormed}
 use Rattle.bank.proofs.Laws.{Formed, formed-is, formed-of, ready, bank-is, fresh-formed}
@@ -21,12 +22,12 @@ use Rattle.model.specs.Lists.{Lists, settleLists, lists}
 use Rattle.model.specs.Laws.{IllFormed, WrongLength, SetUpWellFormed, StaysWellFormed}
 use Rattle.model.proofs.Tests.{Passed, passed}
 use Rattle.model.proofs.Room.{fits}
-use Rattle.model.proofs.Rings.{listed, view-same, ready-after, settled-same}
+use Rattle.model.proofs.Rings.{listed, view-same, ready-after, settled-same, caps-same}
 use Rattle.model.proofs.Formed.{queues-kept, regs-flags-kept, reset-kept}
 use Rattle.model.proofs.Open.{open-kept}
 
 abbrev RightLength : Controller → Type 0
-RightLength l = length (l .store) ≡ total (l .bank .state .queues)
+RightLength l = length (l .store) ≡ total (l .bank .state .caps)
 
 -- the bank is well formed, the store has its length, and the rings hold these lists
 pub record Sound (l : Controller) (m : Lists) : Type 0 where
@@ -42,13 +43,13 @@ served-sound : (l : Controller) (c : Call) → Passed (decide (viewRings l) c) �
 served-sound l c f h z =
     let s = viewRings l in
     let e = decision l c in
-    let q = l .bank .state .queues in
+    let q = queuesIn (l .bank) in
     let k = fits s c f in
     let r = ready q (l .store) (h .queues) z in
-    let g = regs-flags-kept s c (h .regs, h .flags) in
+    let g = regs-flags-kept (l .bank .state .caps) s c (h .regs, h .marks, h .flags) in
     record {
       is = settled-same l e r k;
-      formed = record { queues = queues-kept q (l .store) (e .ops) k (h .queues); regs = g .0; phase = open-kept s c (h .phase) f; reset = reset-kept l c (h .reset) f; flags = g .1 };
+      formed = record { queues = queues-kept q (l .store) (e .ops) k (h .queues); regs = g .0; marks = rw (caps-same q (l .store) (e .ops) r) (g .1); phase = open-kept s c (h .phase) f; reset = reset-kept l c (h .reset) f; flags = g .2 };
       size = ready-after q (l .store) (e .ops) r k .size;
     }
 
@@ -62,7 +63,7 @@ listsBy m n e = outcome n e m (settleLists m e)
 -- 21 and 22 do not arise
 pub rings-step : (l : Controller) (c : Call) → Formed (l .bank) → RightLength l → step rings l c ≡ ringsBy l (first (decide (viewRings l) c)) (decision l c)
 unfolding step guardRings
-rings-step l c h z = rw (formed-is (l .bank) h, eq-eqb (length (l .store)) (total (l .bank .state .queues)) z)
+rings-step l c h z = rw (formed-is (l .bank) h, eq-eqb (length (l .store)) (total (l .bank .state .caps)) z)
 
 lists-step : (l : Controller) (c : Call) → step lists (listed l) c ≡ listsBy (listed l) (first (decide (viewRings l) c)) (decision l c)
 unfolding step
@@ -119,7 +120,7 @@ ill-formed l c h = rw h
 
 pub wrong-length : WrongLength
 unfolding WrongLength step guardRings
-wrong-length l c h z = rw (h, not-equal (length (l .store)) (total (l .bank .state .queues)) z)
+wrong-length l c h z = rw (h, not-equal (length (l .store)) (total (l .bank .state .caps)) z)
 
 pub set-up-well-formed : SetUpWellFormed
 unfolding SetUpWellFormed
@@ -127,8 +128,8 @@ set-up-well-formed caps marks id h = subst (λ (b : Bank). wellFormed b ≡ true
 
 pub stays-well-formed : StaysWellFormed
 unfolding StaysWellFormed WrongLength
-stays-well-formed l c h = go (eqb (length (l .store)) (total (l .bank .state .queues))) refl
+stays-well-formed l c h = go (eqb (length (l .store)) (total (l .bank .state .caps))) refl
   where
-    go : (b : Bool) → eqb (length (l .store)) (total (l .bank .state .queues)) ≡ b → wellFormed (step rings l c .next .bank) ≡ true
-    go true z = formed-is (step rings l c .next .bank) (stays-sound l (listed l) c (record { is = refl; formed = formed-of (l .bank) h; size = eqb-true (length (l .store)) (total (l .bank .state .queues)) z }) .formed)
-    go false z = subst (λ (x : Step Controller). wellFormed (x .next .bank) ≡ true) (sym (wrong-length l c h (eqb-false (length (l .store)) (total (l .bank .state .queues)) z))) h
+    go : (b : Bool) → eqb (length (l .store)) (total (l .bank .state .caps)) ≡ b → wellFormed (step rings l c .next .bank) ≡ true
+    go true z = formed-is (step rings l c .next .bank) (stays-sound l (listed l) c (record { is = refl; formed = formed-of (l .bank) h; size = eqb-true (length (l .store)) (total (l .bank .state .caps)) z }) .formed)
+    go false z = subst (λ (x : Step Controller). wellFormed (x .next .bank) ≡ true) (sym (wrong-length l c h (eqb-false (length (l .store)) (total (l .bank .state .caps)) z))) h

@@ -6,6 +6,7 @@ use mathlib.Core.Bool.{Bool, true, false, cond, not, _&&_}
 use mathlib.Core.List.{List, [], _∷_, _++_}
 use lib.Dec.{eqb}
 use lib.ListN.{length, getD, drop}
+use Rattle.bank.specs.Queues.{queuesIn}
 use Rattle.bank.specs.declared.Answer.{Answer}
 use Rattle.bank.specs.Bits.{bit, bits}
 use Rattle.bank.specs.Phases.{idle}
@@ -14,24 +15,13 @@ use Rattle.model.specs.declared.Call.{Call}
 use Rattle.model.specs.declared.Call.the-variants.{Read, Write, Start, Send, Receive, Finish, Interrupt, Request, Take, Trigger}
 use Rattle.model.specs.Engine.{step}
 use Rattle.model.specs.Rings.{Controller, rings}
+use Rattle.model.specs.Laws.{isAccess}
 use Rattle.model.specs.Demand.{snoc}
 
 -- ── Calls one after another; bank, store and output are written by nobody else ────────────────────────────────
 unfoldable pub after : Controller → List Call → Controller
 after l [] = l
 after l (c ∷ cs) = after (step rings l c .next) cs
-
-abbrev pub isAccess : Call → Bool
-isAccess (Read o) = true
-isAccess (Write o v) = true
-isAccess Start = false
-isAccess Send = false
-isAccess (Receive byte) = false
-isAccess (Finish code) = false
-isAccess (Interrupt a byte) = false
-isAccess (Request v w) = false
-isAccess Take = false
-isAccess Trigger = false
 
 unfoldable pub accesses : List Call → List Call
 accesses [] = []
@@ -117,7 +107,7 @@ pub record Burst (l m n : Controller) (ts : List Moved) : Type 0 where
   -- the output: "one per read command"; words past them stay
   pub output : m .output ≡ readWords (l .bank .commands) 0 ts ++ drop (readsIn (span (l .bank .state .regs)) (l .bank .commands)) (l .output)
   -- the five queues, ENABLE, both syncs and the pending bits are what the accesses alone leave
-  pub queues : m .bank .state .queues ≡ n .bank .state .queues
+  pub queues : queuesIn (m .bank) ≡ queuesIn (n .bank)
   pub store : m .store ≡ n .store
   pub control : m .bank .state .control ≡ n .bank .state .control
   pub closed : idle (m .bank .state .phase) ≡ true

@@ -1,7 +1,6 @@
 -- Offload bursts, 02 §3: the trigger, 01's events inside an open burst; and every call.
 use Prim.Native.Nat.{ℕ, _+_, _-_, _*_, _/_, _%_, _^_}
-use mathlib.Core.Bool.{Bool, cond, not, _&&_}
-use mathlib.Core.List.{List}
+use mathlib.Core.Bool.{Bool, false, cond, not, _&&_}
 use lib.Dec.{leb, ltb, eqb}
 use lib.ListN.{length, getD, set}
 use Rattle.bank.specs.declared.Control.{Control}
@@ -97,6 +96,19 @@ burstFinish s code =
 abbrev pub within : View → Decision → Decision → Decision
 within s inside outside = short s ⇒ 13 ∣ cond (bursting (s .control)) inside outside
 
+-- 18: the code of a finish or the address of an interrupt request is out of its range
+abbrev pub misfit : Call → Bool
+misfit (Read o) = false
+misfit (Write o v) = false
+misfit Start = false
+misfit Send = false
+misfit (Receive byte) = false
+misfit (Finish code) = ltb 15 code
+misfit (Interrupt a byte) = ltb 127 a
+misfit (Request v w) = false
+misfit Take = false
+misfit Trigger = false
+
 -- "21 goes first, then 22, then 18", then 13 in an open burst, "then the order given at each event". In an open burst a transfer is open
 -- that is no ENTDAA, so a start and an interrupt request are 6, an address request and an address take 10.
 abbrev pub decide : View → Call → Decision
@@ -105,8 +117,8 @@ decide s (Write o v) = write (row (registerAt o)) s v
 decide s Start = short s ⇒ 13 ∣ start s
 decide s Send = within s (burstSend s) (send s)
 decide s (Receive byte) = within s (burstReceive s byte) (receive s byte)
-decide s (Finish code) = ltb 15 code ⇒ 18 ∣ within s (burstFinish s code) (finish s code)
-decide s (Interrupt a byte) = ltb 127 a ⇒ 18 ∣ short s ⇒ 13 ∣ interrupt s a byte
+decide s (Finish code) = misfit (Finish code) ⇒ 18 ∣ within s (burstFinish s code) (finish s code)
+decide s (Interrupt a byte) = misfit (Interrupt a byte) ⇒ 18 ∣ short s ⇒ 13 ∣ interrupt s a byte
 decide s (Request v w) = short s ⇒ 13 ∣ request s v w
 decide s Take = short s ⇒ 13 ∣ takeAddress s
 decide s Trigger = short s ⇒ 13 ∣ trigger s

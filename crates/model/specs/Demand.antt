@@ -7,6 +7,7 @@ use mathlib.Core.List.{List, [], _∷_, _++_}
 use mathlib.Core.Option.{Option, none, some}
 use lib.Dec.{ltb, eqb}
 use lib.ListN.{length, take}
+use Rattle.bank.specs.Queues.{queuesIn}
 use Rattle.bank.specs.declared.Sizes.{Sizes}
 use Rattle.bank.specs.declared.Control.{Control}
 use Rattle.bank.specs.declared.Phase.{Phase}
@@ -267,5 +268,5 @@ Demand =
     → let b : Controller = record { bank = setUp caps marks id .bank; store = store; output = [] } in
     tally rings none b cs ≡ some t
     → let l = final rings b cs in
-    let a = areas (l .bank .state .queues) in
+    let a = areas (queuesIn (l .bank)) in
     Demand3 t (not (idle (directPhase (l .bank .state .control) (l .bank .state .phase)))) (wordsIn (a .cmd) (l .store)) (wordsIn (a .cmdr) (l .store))

@@ -4,6 +4,7 @@ use mathlib.Core.Path.{_≡_}
 use mathlib.Core.Bool.{Bool, true, false, cond, _&&_, _||_}
 use mathlib.Core.List.{List, [], _∷_}
 use lib.ListN.{length, getD, drop}
+use Rattle.bank.specs.Queues.{queuesIn}
 use Rattle.bank.specs.declared.Control.{Control}
 use Rattle.bank.specs.declared.Sizes.{Sizes}
 use Rattle.bank.specs.Phases.{idle, transfer}
@@ -47,7 +48,7 @@ Within (offloadSdo i) v l = i < length (l .bank .payloads)
 -- a write to such a register is taken, in reset too, but to OPS and the offload memories not while a burst is open: then it is 6
 unfoldable pub PlainWriteTaken : Type 0
 PlainWriteTaken =
-    (l : Controller) (o v : ℕ) (c : Cell) → row (registerAt o) ≡ holds c → wellFormed (l .bank) ≡ true → length (l .store) ≡ total (l .bank .state .queues) → step rings l (Write o v) .answer ≡ record { value = 0; number = cond (burstHolds c && bursting (l .bank .state .control)) 6 0 }
+    (l : Controller) (o v : ℕ) (c : Cell) → row (registerAt o) ≡ holds c → wellFormed (l .bank) ≡ true → length (l .store) ≡ total (l .bank .state .caps) → step rings l (Write o v) .answer ≡ record { value = 0; number = cond (burstHolds c && bursting (l .bank .state .control)) 6 0 }
 
 unfoldable pub ReadBack : Type 0
 ReadBack =
@@ -56,12 +57,12 @@ ReadBack =
 
 -- ── The room of CMD and SDO plus the words that they hold is the capacity, after any list of calls ────────────
 pub record RoomIs (l : Controller) (caps : Sizes) : Type 0 where
-  pub cmd : step rings l (Read 0x0c0) .answer .value + length (wordsIn (areas (l .bank .state .queues) .cmd) (l .store)) ≡ caps .cmd
-  pub sdo : step rings l (Read 0x0c8) .answer .value + length (wordsIn (areas (l .bank .state .queues) .sdo) (l .store)) ≡ caps .sdo
+  pub cmd : step rings l (Read 0x0c0) .answer .value + length (wordsIn (areas (queuesIn (l .bank)) .cmd) (l .store)) ≡ caps .cmd
+  pub sdo : step rings l (Read 0x0c8) .answer .value + length (wordsIn (areas (queuesIn (l .bank)) .sdo) (l .store)) ≡ caps .sdo
 
 unfoldable pub RoomAndWords : Type 0
 RoomAndWords =
-    (caps marks : Sizes) (id : ℕ) (store : List ℕ) (cs : List Lent) → setUp caps marks id .answer .number ≡ 0 → length store ≡ total (setUp caps marks id .bank .state .queues) → RoomIs (final rings (fresh caps marks id store) cs) caps
+    (caps marks : Sizes) (id : ℕ) (store : List ℕ) (cs : List Lent) → setUp caps marks id .answer .number ≡ 0 → length store ≡ total (setUp caps marks id .bank .state .caps) → RoomIs (final rings (fresh caps marks id store) cs) caps
 
 -- ── What a read changes ───────────────────────────────────────────────────────────────────────────────────────
 abbrev pub takesWord : Row → Bool
@@ -89,7 +90,7 @@ pub record ControlAfter (q : Queue) (emptied : Bool) (c d : Control) : Type 0 wh
   pub burst : d .burst ≡ c .burst
 
 abbrev pub wordsOf : Queue → Controller → List ℕ
-wordsOf q l = wordsIn (of q (areas (l .bank .state .queues))) (l .store)
+wordsOf q l = wordsIn (of q (areas (queuesIn (l .bank)))) (l .store)
 
 pub record ReadTook (l m : Controller) (value : ℕ) (q : Queue) : Type 0 where
   pub first : value ≡ getD (wordsOf q l) 0 0
@@ -118,7 +119,7 @@ pub record Clean (l : Controller) : Type 0 where
 -- both writes to ENABLE are taken, in every state
 unfoldable pub ReleasedClean : Type 0
 ReleasedClean =
-    (l : Controller) → wellFormed (l .bank) ≡ true → length (l .store) ≡ total (l .bank .state .queues)
+    (l : Controller) → wellFormed (l .bank) ≡ true → length (l .store) ≡ total (l .bank .state .caps)
     → let held = step rings l (Write 0x040 1) in
     let free = step rings (held .next) (Write 0x040 0) in
     (held .answer ≡ record { value = 0; number = 0 }) × (free .answer ≡ record { value = 0; number = 0 }) × Clean (free .next)

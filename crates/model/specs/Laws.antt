@@ -4,6 +4,7 @@ use mathlib.Core.Path.{_≡_}
 use mathlib.Core.Bool.{Bool, true, false, _||_}
 use mathlib.Core.List.{List, []}
 use lib.ListN.{length}
+use Rattle.bank.specs.Queues.{queuesIn}
 use Rattle.bank.specs.declared.Sizes.{Sizes}
 use Rattle.bank.specs.SetUp.{setUp, total}
 use Rattle.bank.specs.Formed.{wellFormed}
@@ -21,23 +22,23 @@ abbrev pub fresh : Sizes → Sizes → ℕ → List ℕ → Controller
 fresh caps marks id store = record { bank = setUp caps marks id .bank; store = store; output = [] }
 
 -- the same set-up with every queue an empty list
-abbrev pub emptyQueue : ℕ → ℕ → ListQueue
-emptyQueue cap mark = record { cap = cap; mark = mark; words = [] }
+abbrev pub emptyQueue : ℕ → ListQueue
+emptyQueue cap = record { cap = cap; words = [] }
 
 abbrev pub freshLists : Sizes → Sizes → ℕ → Lists
 freshLists c m id =
     let v = viewRings (fresh c m id []) in
-    record { regs = v .regs; control = v .control; phase = v .phase; tables = v .tables; queues = each (emptyQueue (c .cmd) (m .cmd)) (emptyQueue (c .cmdr) (m .cmdr)) (emptyQueue (c .sdo) (m .sdo)) (emptyQueue (c .sdi) (m .sdi)) (emptyQueue (c .ibi) (m .ibi)) }
+    record { regs = v .regs; control = v .control; phase = v .phase; tables = v .tables; queues = each (emptyQueue (c .cmd)) (emptyQueue (c .cmdr)) (emptyQueue (c .sdo)) (emptyQueue (c .sdi)) (emptyQueue (c .ibi)) }
 
 -- From the same set-up answered 0, with a store of the right length and any contents, both engines give equal answers along every list
 -- of calls, and each ring then holds the words of its list.
 pub record Agreement (caps marks : Sizes) (id : ℕ) (store : List ℕ) (cs : List Lent) : Type 0 where
   pub sameAnswers : answers rings (fresh caps marks id store) cs ≡ answers lists (freshLists caps marks id) cs
-  pub sameWords : (k : Queue) → (let l = final rings (fresh caps marks id store) cs in wordsIn (of k (areas (l .bank .state .queues))) (l .store) ≡ of k (final lists (freshLists caps marks id) cs .queues) .words)
+  pub sameWords : (k : Queue) → (let l = final rings (fresh caps marks id store) cs in wordsIn (of k (areas (queuesIn (l .bank)))) (l .store) ≡ of k (final lists (freshLists caps marks id) cs .queues) .words)
 
 unfoldable pub EnginesAgree : Type 0
 EnginesAgree =
-    (caps marks : Sizes) (id : ℕ) (store : List ℕ) (cs : List Lent) → setUp caps marks id .answer .number ≡ 0 → length store ≡ total (setUp caps marks id .bank .state .queues) → Agreement caps marks id store cs
+    (caps marks : Sizes) (id : ℕ) (store : List ℕ) (cs : List Lent) → setUp caps marks id .answer .number ≡ 0 → length store ≡ total (setUp caps marks id .bank .state .caps) → Agreement caps marks id store cs
 
 -- With a bank that is not well formed every call is 21; else with a store of any other length every call is 22. Nothing changes.
 abbrev pub refused : Controller → ℕ → Step Controller
@@ -48,7 +49,7 @@ IllFormed = (l : Controller) (c : Call) → wellFormed (l .bank) ≡ false → s
 
 unfoldable pub WrongLength : Type 0
 WrongLength =
-    (l : Controller) (c : Call) → wellFormed (l .bank) ≡ true → (length (l .store) ≡ total (l .bank .state .queues) → ⊥)
+    (l : Controller) (c : Call) → wellFormed (l .bank) ≡ true → (length (l .store) ≡ total (l .bank .state .caps) → ⊥)
     → step rings l c ≡ refused l 22
 
 -- Any number but 0 and 19 leaves bank, store and output as they were, and the value is 0.
@@ -69,6 +70,29 @@ StoreKeepsLength = (l : Controller) (c : Call) → length (step rings l c .next 
 -- So does the output.
 unfoldable pub OutputKeepsLength : Type 0
 OutputKeepsLength = (l : Controller) (c : Call) → length (step rings l c .next .output) ≡ length (l .output)
+
+-- No call moves a watermark.
+unfoldable pub WatermarksStay : Type 0
+WatermarksStay = (l : Controller) (c : Call) → step rings l c .next .bank .state .regs .marks ≡ l .bank .state .regs .marks
+
+-- ── Accesses and the output ───────────────────────────────────────────────────────────────────────────────────
+abbrev pub isAccess : Call → Bool
+isAccess (Read o) = true
+isAccess (Write o v) = true
+isAccess Start = false
+isAccess Send = false
+isAccess (Receive byte) = false
+isAccess (Finish code) = false
+isAccess (Interrupt a byte) = false
+isAccess (Request v w) = false
+isAccess Take = false
+isAccess Trigger = false
+
+-- A register access neither looks at the output nor changes it.
+unfoldable pub AccessesLeaveOutput : Type 0
+AccessesLeaveOutput =
+    (l : Controller) (o : List ℕ) (c : Call) → isAccess c ≡ true
+    → let r = step rings l c in step rings (rings .lend o l) c ≡ record { answer = r .answer; next = rings .lend o (r .next) }
 
 -- ── Which queues a call names ─────────────────────────────────────────────────────────────────────────────────
 abbrev pub same : Queue → Queue → Bool
@@ -114,6 +138,6 @@ unfoldable pub OthersStay : Type 0
 OthersStay =
     (l : Controller) (c : Call) (k : Queue) → names c k ≡ false
     → let m = step rings l c .next in
-    let a = of k (areas (l .bank .state .queues)) in
-    let b = of k (areas (m .bank .state .queues)) in
+    let a = of k (areas (queuesIn (l .bank))) in
+    let b = of k (areas (queuesIn (m .bank))) in
     (b ≡ a) × (wordsIn b (m .store) ≡ wordsIn a (l .store))

@@ -12,7 +12,6 @@ use Rattle.model.specs.Engine.{Engine}
 
 pub record ListQueue : Type 0 where
   pub cap : ℕ
-  pub mark : ℕ
   pub words : List ℕ
 
 pub record Lists : Type 0 where
@@ -23,7 +22,7 @@ pub record Lists : Type 0 where
   pub queues : Five ListQueue
 
 abbrev pub viewList : ListQueue → QueueView
-viewList q = record { cap = q .cap; mark = q .mark; level = length (q .words); first = getD (q .words) 0 0; second = getD (q .words) 1 0 }
+viewList q = record { cap = q .cap; level = length (q .words); first = getD (q .words) 0 0; second = getD (q .words) 1 0 }
 
 abbrev pub viewLists : Lists → View
 viewLists l =
@@ -38,7 +37,7 @@ onWords (push w) ws = ws ++ (w ∷ [])
 onWords (push2 v w) ws = ws ++ (v ∷ w ∷ [])
 
 abbrev pub onList : QueueOp → ListQueue → ListQueue
-onList o q = record { cap = q .cap; mark = q .mark; words = onWords o (q .words) }
+onList o q = record { cap = q .cap; words = onWords o (q .words) }
 
 abbrev pub settleLists : Lists → Effect → Lists
 settleLists l e =

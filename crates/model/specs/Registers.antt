@@ -37,12 +37,13 @@ device a s = getD (s .tables .flags) a 0
 abbrev pub sources : ℕ → View → ℕ
 sources m s =
     let q = s .queues in
+    let w = s .regs .marks in
     let c = s .control in
-    weigh (ltb (q .cmd .level) (q .cmd .mark) && bit 0 m) 1
-    + weigh (ltb (q .cmdr .mark) (q .cmdr .level) && bit 1 m) 2
-    + weigh (ltb (q .sdo .level) (q .sdo .mark) && bit 2 m) 4
-    + weigh (ltb (q .sdi .mark) (q .sdi .level) && bit 3 m) 8
-    + weigh (ltb (q .ibi .mark) (q .ibi .level) && bit 4 m) 16
+    weigh (ltb (q .cmd .level) (w .cmd .0) && bit 0 m) 1
+    + weigh (ltb (w .cmdr .0) (q .cmdr .level) && bit 1 m) 2
+    + weigh (ltb (q .sdo .level) (w .sdo .0) && bit 2 m) 4
+    + weigh (ltb (w .sdi .0) (q .sdi .level) && bit 3 m) 8
+    + weigh (ltb (w .ibi .0) (q .ibi .level) && bit 4 m) 16
     + weigh (c .cmdrpending && bit 5 m) 32
     + weigh (c .ibipending && bit 6 m) 64
     + weigh (c .daapending && bit 7 m) 128
@@ -92,11 +93,11 @@ shown (offloadSdo i) s = getD (s .tables .payloads) i 0
 -- What a write keeps: "Unnamed bits are ignored on write .. where an entry of this map names no bits, all 32 are kept". IRQ_MASK has
 -- 7:0, OPS 6:0, IBI_CONFIG 1:0. DEV_CHAR: "15:9 address .. Every write selects the address".
 abbrev pub storedRegs : Cell → ℕ → Regs → Regs
-storedRegs scratch v g = record { id = g .id; scratch = v; mask = g .mask; ops = g .ops; config = g .config; selected = g .selected }
-storedRegs mask v g = record { id = g .id; scratch = g .scratch; mask = v % 2 ^ 8; ops = g .ops; config = g .config; selected = g .selected }
-storedRegs ops v g = record { id = g .id; scratch = g .scratch; mask = g .mask; ops = v % 2 ^ 7; config = g .config; selected = g .selected }
-storedRegs ibiConfig v g = record { id = g .id; scratch = g .scratch; mask = g .mask; ops = g .ops; config = v % 2 ^ 2; selected = g .selected }
-storedRegs devChar v g = record { id = g .id; scratch = g .scratch; mask = g .mask; ops = g .ops; config = g .config; selected = bits 15 9 v }
+storedRegs scratch v g = record { id = g .id; scratch = v; mask = g .mask; ops = g .ops; config = g .config; selected = g .selected; marks = g .marks }
+storedRegs mask v g = record { id = g .id; scratch = g .scratch; mask = v % 2 ^ 8; ops = g .ops; config = g .config; selected = g .selected; marks = g .marks }
+storedRegs ops v g = record { id = g .id; scratch = g .scratch; mask = g .mask; ops = v % 2 ^ 7; config = g .config; selected = g .selected; marks = g .marks }
+storedRegs ibiConfig v g = record { id = g .id; scratch = g .scratch; mask = g .mask; ops = g .ops; config = v % 2 ^ 2; selected = g .selected; marks = g .marks }
+storedRegs devChar v g = record { id = g .id; scratch = g .scratch; mask = g .mask; ops = g .ops; config = g .config; selected = bits 15 9 v; marks = g .marks }
 storedRegs (offloadCmd i) v g = g
 storedRegs (offloadSdo i) v g = g
 

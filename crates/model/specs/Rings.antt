@@ -6,8 +6,9 @@ use lib.Dec.{eqb}
 use lib.ListN.{length, getD, set}
 use Rattle.ring.specs.declared.Ring.{Ring}
 use Rattle.ring.specs.Ring.{placeOf, pushedOf, takenOf, clearedOf, entries}
-use Rattle.bank.specs.declared.Queues.{Queues}
+use Rattle.bank.specs.declared.Counts.{Counts}
 use Rattle.bank.specs.declared.Bank.{Bank}
+use Rattle.bank.specs.Queues.{Queues, queuesIn, capsOf, levelsOf, headsOf}
 use Rattle.bank.specs.SetUp.{total}
 use Rattle.bank.specs.Formed.{wellFormed}
 use Rattle.model.specs.View.{Five, each, QueueView, View}
@@ -27,20 +28,20 @@ pub record Area : Type 0 where
 abbrev pub area : Ring → ℕ → Area
 area r b = record { ring = r; base = b }
 
-abbrev pub cmdrAt : Queues → ℕ
-cmdrAt q = q .cmd .cap .0
+abbrev pub cmdrAt : Counts → ℕ
+cmdrAt k = k .cmd .0
 
-abbrev pub sdoAt : Queues → ℕ
-sdoAt q = q .cmd .cap .0 + q .cmdr .cap .0
+abbrev pub sdoAt : Counts → ℕ
+sdoAt k = k .cmd .0 + k .cmdr .0
 
-abbrev pub sdiAt : Queues → ℕ
-sdiAt q = q .cmd .cap .0 + q .cmdr .cap .0 + q .sdo .cap .0
+abbrev pub sdiAt : Counts → ℕ
+sdiAt k = k .cmd .0 + k .cmdr .0 + k .sdo .0
 
-abbrev pub ibiAt : Queues → ℕ
-ibiAt q = q .cmd .cap .0 + q .cmdr .cap .0 + q .sdo .cap .0 + q .sdi .cap .0
+abbrev pub ibiAt : Counts → ℕ
+ibiAt k = k .cmd .0 + k .cmdr .0 + k .sdo .0 + k .sdi .0
 
 abbrev pub areas : Queues → Five Area
-areas q = each (area (q .cmd) 0) (area (q .cmdr) (cmdrAt q)) (area (q .sdo) (sdoAt q)) (area (q .sdi) (sdiAt q)) (area (q .ibi) (ibiAt q))
+areas q = let k = capsOf q in each (area (q .cmd) 0) (area (q .cmdr) (cmdrAt k)) (area (q .sdo) (sdoAt k)) (area (q .sdi) (sdiAt k)) (area (q .ibi) (ibiAt k))
 
 -- the words of a queue, first word first
 abbrev pub wordsIn : Area → List ℕ → List ℕ
@@ -49,7 +50,7 @@ wordsIn a st = entries (a .ring) (a .base) st
 -- ── What it shows ─────────────────────────────────────────────────────────────────────────────────────────────
 abbrev pub viewArea : Area → List ℕ → QueueView
 viewArea a st =
-    record { cap = a .ring .cap .0; mark = a .ring .mark .0; level = a .ring .level .0; first = getD (wordsIn a st) 0 0; second = getD (wordsIn a st) 1 0 }
+    record { cap = a .ring .cap .0; level = a .ring .level .0; first = getD (wordsIn a st) 0 0; second = getD (wordsIn a st) 1 0 }
 
 abbrev pub viewQueues : Queues → List ℕ → Five QueueView
 viewQueues q st = let a = areas q in each (viewArea (a .cmd) st) (viewArea (a .cmdr) st) (viewArea (a .sdo) st) (viewArea (a .sdi) st) (viewArea (a .ibi) st)
@@ -62,7 +63,7 @@ viewRings l =
       control = b .state .control;
       phase = b .state .phase;
       tables = record { flags = b .flags; commands = b .commands; payloads = b .payloads; output = l .output };
-      queues = viewQueues (b .state .queues) (l .store);
+      queues = viewQueues (queuesIn b) (l .store);
     }
 
 -- ── What an effect does ───────────────────────────────────────────────────────────────────────────────────────
@@ -89,11 +90,13 @@ onStores o a st = onStore (o .ibi) (a .ibi) (onStore (o .sdi) (a .sdi) (onStore 
 
 abbrev pub settleRings : Controller → Effect → Controller
 settleRings l e =
-    let q = l .bank .state .queues in
+    let q = queuesIn (l .bank) in
+    let r = onRings (e .ops) q in
     record {
       bank =
           record {
-            state = record { queues = onRings (e .ops) q; regs = e .regs; control = e .control; phase = e .phase };
+            state = record { caps = capsOf r; levels = levelsOf r; regs = e .regs; control = e .control; phase = e .phase };
+            heads = headsOf r;
             flags = e .tables .flags;
             commands = e .tables .commands;
             payloads = e .tables .payloads;
@@ -104,7 +107,7 @@ settleRings l e =
 
 -- "21 goes first, then 22"
 unfoldable pub guardRings : Controller → Decision → Decision
-guardRings l d = not (wellFormed (l .bank)) ⇒ 21 ∣ not (eqb (length (l .store)) (total (l .bank .state .queues))) ⇒ 22 ∣ d
+guardRings l d = not (wellFormed (l .bank)) ⇒ 21 ∣ not (eqb (length (l .store)) (total (l .bank .state .caps))) ⇒ 22 ∣ d
 
 abbrev pub rings : Engine Controller
 rings = record { view = viewRings; guard = guardRings; settle = settleRings; lend = λ o l. record { bank = l .bank; store = l .store; output = o } }

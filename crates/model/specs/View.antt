@@ -34,7 +34,6 @@ of Ibi f = f .ibi
 -- of a queue; a word that is not there is 0
 pub record QueueView : Type 0 where
   pub cap : ℕ
-  pub mark : ℕ
   pub level : ℕ
   pub first : ℕ
   pub second : ℕ
@@ -58,6 +57,9 @@ pub record Tables : Type 0 where
   pub commands : List ℕ
   pub payloads : List ℕ
   pub output : List ℕ
+
+abbrev pub tables : List ℕ → List ℕ → List ℕ → List ℕ → Tables
+tables f c p o = record { flags = f; commands = c; payloads = p; output = o }
 
 pub record View : Type 0 where
   pub regs : Regs

@@ -1,77 +1,41 @@
--- What the passed tests of a send and a receive tell, and what each does where they pass.
-use Prim.Native.Nat.{ℕ, zero, suc, _+_, _-_, _*_, _/_, _%_, _^_, _<_, _≤_}
+-- What the passed tests of a send and a receive tell, and the arithmetic of a part word.
+use Prim.Native.Nat.{ℕ, zero, suc, _+_, _-_, _*_, _%_, _^_, _<_, _≤_}
 use native.Mathlib.Omega.{arith}
-use mathlib.Core.Path.{_≡_, refl, ap, sym, _∙_}
-use mathlib.Core.Bool.{Bool, true, false, cond, _&&_, true≢false, false≢true}
-use mathlib.Core.List.{List}
+use mathlib.Core.Path.{_≡_, refl}
+use mathlib.Core.Bool.{Bool, true, false, cond, false≢true}
 use lib.Dec.{eqb, leb, ltb}
 use borrow.Author.Tests.{leb-false, eqb-true, not-false}
-use Rattle.bank.specs.declared.State.{State}
 use Rattle.bank.specs.declared.Phase.{Phase}
-use Rattle.bank.specs.declared.Phase.the-variants.{Writing, Reading}
 use Rattle.bank.specs.Phases.{transfer, reading, limit, partBytes}
 use Rattle.bank.specs.Formed.{phaseOk}
 use Rattle.bank.proofs.Bools.{three}
-use Rattle.model.specs.View.{Tables, View}
-use Rattle.model.specs.Decision.{keep, take, push}
-use Rattle.model.specs.Calls.{send, receive, advanced, fresh, fills}
-use Rattle.model.specs.Rings.{area, onRing, onStore, sdoAt, sdiAt}
-use Rattle.answer.specs.Given.{view, number, given, doneNext, decided}
-use Rattle.answer.proofs.Laws.{cleared, served-by, take-writes-none, room-of}
+use Rattle.model.specs.View.{View}
+use Rattle.model.specs.Calls.{send, receive}
+use Rattle.effect.specs.Effects.{number}
+use Rattle.effect.proofs.Laws.{cleared}
 
 -- ── Send ──────────────────────────────────────────────────────────────────────────────────────────────────────
 pub record Sends (s : View) : Type 0 where
   pub below : transfer (s .phase) .moved .0 < transfer (s .phase) .length .0
-  pub fed : fresh (transfer (s .phase)) ≡ true → 0 < s .queues .sdo .level
-
-fed-of : (a : Bool) (n : ℕ) → (a && eqb n 0) ≡ false → a ≡ true → 0 < n
-fed-of true zero e h = absurd (true≢false e)
-fed-of false zero e h = absurd (false≢true h)
-fed-of a (suc n) e h = omega arith
 
 pub sends : (s : View) → number (send s) ≡ 0 → Sends s
 unfolding send
 sends s e =
     let t = transfer (s .phase) in
     let p = cleared (send s) refl e in
-    record { below = leb-false (t .length .0) (t .moved .0) (p .1 .1 .1 .1 .0); fed = fed-of (fresh t) (s .queues .sdo .level) (p .1 .1 .1 .1 .1 .0) }
-
-module _ (st : State) (t : Tables) (s : List ℕ) where
-  pub sent : number (send (view st t s)) ≡ 0
-      → let x = transfer (st .phase) in
-      let q = st .queues in
-      let w = cond (fresh x) (view st t s .queues .sdo .first) (x .part) in
-      given (doneNext (record { cmd = q .cmd; cmdr = q .cmdr; sdo = onRing (cond (fresh x) (take 1) keep) (q .sdo); sdi = q .sdi; ibi = q .ibi }) (st .regs) (st .control) (Writing (advanced x (w % 0x1000000 * 256))) (w / 0x1000000 % 256) 0) t s ≡ decided st t s (send (view st t s))
-  unfolding send onRing onStore
-  sent e =
-      let x = transfer (st .phase) in
-      let q = st .queues in
-      let w = cond (fresh x) (view st t s .queues .sdo .first) (x .part) in
-      ap (given (doneNext (record { cmd = q .cmd; cmdr = q .cmdr; sdo = onRing (cond (fresh x) (take 1) keep) (q .sdo); sdi = q .sdi; ibi = q .ibi }) (st .regs) (st .control) (Writing (advanced x (w % 0x1000000 * 256))) (w / 0x1000000 % 256) 0) t) (sym (take-writes-none (fresh x) 1 (area (q .sdo) (sdoAt q)) s))
-      ∙ served-by st t s (send (view st t s)) refl e
+    record { below = leb-false (t .length .0) (t .moved .0) (p .1 .1 .1 .1 .0) }
 
 -- ── Receive ───────────────────────────────────────────────────────────────────────────────────────────────────
 pub record Receives (s : View) : Type 0 where
   pub reads : reading (s .phase) ≡ true
   pub below : transfer (s .phase) .moved .0 < transfer (s .phase) .length .0
-  pub room : fills (transfer (s .phase)) ≡ true → s .queues .sdi .level < s .queues .sdi .cap
 
 pub receives : (s : View) (byte : ℕ) → number (receive s byte) ≡ 0 → Receives s
 unfolding receive
 receives s byte e =
     let t = transfer (s .phase) in
     let p = cleared (receive s byte) refl e in
-    record { reads = not-false (reading (s .phase)) (p .1 .1 .1 .0); below = leb-false (t .length .0) (t .moved .0) (p .1 .1 .1 .1 .0); room = room-of (fills t) (s .queues .sdi .cap) (s .queues .sdi .level) (p .1 .1 .1 .1 .1 .0) }
-
-module _ (st : State) (t : Tables) (s : List ℕ) (byte : ℕ) where
-  pub received : number (receive (view st t s) byte) ≡ 0
-      → let x = transfer (st .phase) in
-      let q = st .queues in
-      let w = x .part + byte * 2 ^ (24 - 8 * (x .moved .0 % 4)) in
-      let o = cond (fills x) (push w) keep in
-      given (doneNext (record { cmd = q .cmd; cmdr = q .cmdr; sdo = q .sdo; sdi = onRing o (q .sdi); ibi = q .ibi }) (st .regs) (st .control) (Reading (advanced x (cond (fills x) 0 w))) 0 0) t (onStore o (area (q .sdi) (sdiAt q)) s) ≡ decided st t s (receive (view st t s) byte)
-  unfolding receive onRing onStore
-  received e = served-by st t s (receive (view st t s) byte) refl e
+    record { reads = not-false (reading (s .phase)) (p .1 .1 .1 .0); below = leb-false (t .length .0) (t .moved .0) (p .1 .1 .1 .1 .0) }
 
 -- ── The part word of a read ───────────────────────────────────────────────────────────────────────────────────
 part-of : (r : Bool) (x a b : ℕ) → r ≡ true → eqb (x % 2 ^ (32 - 8 * cond r a b)) 0 ≡ true → x % 2 ^ (32 - 8 * a) ≡ 0

@@ -1,18 +1,19 @@
-// Payload bytes sent and received outside a burst, behind the two tests of bank and store: a layer, no interface.
+// Payload bytes sent and received outside a burst, as decisions.
 ghost use mathlib.Core.Path.{_≡_};
 ghost use Prim.Native.Nat.{ℕ, _+_, _-_, _*_, _%_, _^_, _<_, _≤_};
 ghost use mathlib.Core.Bool.{true};
-ghost use mathlib.Core.List.{List};
 ghost use Rattle.bank.specs.Formed.{phaseOk};
 ghost use Rattle.model.specs.View.{Tables};
 ghost use Rattle.model.specs.Calls.{advanced, send, receive};
-ghost use Rattle.answer.specs.Given.{view, number, given, decided, Open};
+ghost use Rattle.effect.specs.Effects.{effectOf, verdict, number};
+ghost use Rattle.effect.specs.Seen.{Fronts, seen};
 ghost use Rattle.payload.specs.Bytes.{byteNumber};
-use answer::Next;
 use bank::Phase;
 use bank::State;
 use bank::Transfer;
 use bank::phases;
+use effect::Effect;
+use effect::Op;
 
 // One byte more has moved, and the part word is `w`.
 pub fn advance(t: Transfer, w: u32) -> Transfer
@@ -43,43 +44,40 @@ pub fn byte_number(st: State, way: u32, last: u32) -> u32
 
 // The number of a send, 0 where none of its tests holds.
 fn send_number(st: State) -> u32
-    ensures { λ n. ⌜ ((t : Tables) (s : List ℕ) → n ≡ number (send (view st t s))) ⌝ }
+    ensures { λ n. ⌜ ((t : Tables) (f : Fronts) → n ≡ number (send (seen st t f))) ⌝ }
 {
     let p = st.phase;
     let t = phases::transfer_of(p);
-    let starved = (t.moved.0 % 4 == 0) & (st.queues.sdo.level.0 == 0);
+    let starved = (t.moved.0 % 4 == 0) & (st.levels.sdo.0 == 0);
     byte_number(st, phases::WRITING, bank::select(starved, 12, 0))
 }
 
-// A byte sent: the first of a new SDO word, or the next of the part word.
-pub fn send(st: State, store: &[u32]) -> Next
-    requires { ⌜ Open st (now store) ⌝ }
-    ensures { λ y. ⌜ ((t : Tables) → given y t (now (store .entry)) ≡ decided st t (now (store .entry)) (send (view st t (now (store .entry))))) ⌝ }
+// A byte sent: the first of a new SDO word, or the next of the part word. `word` is the first of SDO.
+pub fn send(st: State, word: u32) -> Effect
+    ensures { λ e. ⌜ ((t : Tables) (f : Fronts) → word ≡ f .sdo .first → effectOf e t ≡ verdict send (seen st t f)) ⌝ }
 {
     let n = send_number(st);
     if n != 0 {
-        return answer::refuse(st, n);
+        return effect::refuse(st, n);
     }
     let p = st.phase;
     let t = phases::transfer_of(p);
     let fresh = t.moved.0 % 4 == 0;
-    let word = answer::sdo_first(st.queues, store);
     let w = bank::select(fresh, word, t.part);
     let next = advance(t, w % 0x1000000 * 256);
-    let mut q = st.queues;
-    q.sdo = answer::take_if(st.queues.sdo, fresh);
     let g = st.regs;
     let c = st.control;
-    answer::done(q, g, c, Phase::Writing(next), w / 0x1000000 % 256, 0)
+    let o = effect::on_sdo(fresh, Op::Take(1));
+    effect::done(st, w / 0x1000000 % 256, 0, g, c, Phase::Writing(next), o)
 }
 
 // The number of a byte received, 0 where none of its tests holds.
 fn receive_number(st: State) -> u32
-    ensures { λ n. ⌜ ((t : Tables) (s : List ℕ) (byte : ℕ) → n ≡ number (receive (view st t s) byte)) ⌝ }
+    ensures { λ n. ⌜ ((t : Tables) (f : Fronts) (byte : ℕ) → n ≡ number (receive (seen st t f) byte)) ⌝ }
 {
     let p = st.phase;
     let t = phases::transfer_of(p);
-    let full = (t.moved.0 % 4 == 3) & (st.queues.sdi.cap.0 <= st.queues.sdi.level.0);
+    let full = (t.moved.0 % 4 == 3) & (st.caps.sdi.0 <= st.levels.sdi.0);
     byte_number(st, phases::READING, bank::select(full, 13, 0))
 }
 
@@ -102,23 +100,21 @@ pub fn gathered(part: u32, moved: u32, byte: u8) -> u32
 }
 
 // A byte received: the fourth of a word pushes the word to SDI.
-pub fn receive(st: State, store: &mut [u32], byte: u8) -> Next
-    requires { ⌜ (Open st (now store)) × (phaseOk (st .phase) ≡ true) ⌝ }
-    ensures { λ y. ⌜ ((t : Tables) → given y t (now (store .exit)) ≡ decided st t (now (store .entry)) (receive (view st t (now (store .entry))) byte)) ⌝ }
+pub fn receive(st: State, byte: u8) -> Effect
+    requires { ⌜ phaseOk (st .phase) ≡ true ⌝ }
+    ensures { λ e. ⌜ ((t : Tables) (f : Fronts) → effectOf e t ≡ verdict (λ v. receive v byte) (seen st t f)) ⌝ }
 {
     let n = receive_number(st);
     if n != 0 {
-        return answer::refuse(st, n);
+        return effect::refuse(st, n);
     }
     let p = st.phase;
     let t = phases::transfer_of(p);
     let fills = t.moved.0 % 4 == 3;
     let w = gathered(t.part, t.moved.0, byte);
-    let base = answer::sdi_at(st.queues);
-    let mut q = st.queues;
-    q.sdi = answer::push_if(st.queues.sdi, base, store, fills, w);
     let next = advance(t, bank::select(fills, 0, w));
     let g = st.regs;
     let c = st.control;
-    answer::done(q, g, c, Phase::Reading(next), 0, 0)
+    let o = effect::on_sdi(fills, Op::Push(w));
+    effect::done(st, 0, 0, g, c, Phase::Reading(next), o)
 }

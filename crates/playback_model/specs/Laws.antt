@@ -74,5 +74,5 @@ inRange Trigger = true
 
 -- 02 §3: "replay lends an empty one". So on a bank with an open burst that has reads, the events of a trace are answered 13, and change nothing
 unfoldable pub BurstUnserved : Type 0
-BurstUnserved = (b : Bank) (store : List ℕ) (k : Call) → wellFormed b ≡ true → length store ≡ total (b .state .queues) → bursting (b .state .control) ≡ true → 0 < readsIn (span (b .state .regs)) (b .commands) → inRange k ≡ true
+BurstUnserved = (b : Bank) (store : List ℕ) (k : Call) → wellFormed b ≡ true → length store ≡ total (b .state .caps) → bursting (b .state .control) ≡ true → 0 < readsIn (span (b .state .regs)) (b .commands) → inRange k ≡ true
     → (let l = controller b store [] in step rings l k ≡ record { answer = record { value = 0; number = 13 }; next = l })

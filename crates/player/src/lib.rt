@@ -3,13 +3,15 @@
 ghost use mathlib.Core.Path.{_≡_};
 ghost use Prim.Native.Nat.{_*_, _≤_};
 ghost use lib.ListN.{length};
-ghost use Rattle.answer.specs.Given.{bankWith, controller, tables};
+ghost use Rattle.model.specs.View.{tables};
+ghost use Rattle.answer.specs.Given.{bankWith, controller};
 ghost use Rattle.faults.specs.Faults.{faultNumber};
 ghost use Rattle.record_model.specs.Record.{each};
 ghost use Rattle.playback_model.specs.Replay.{begun, did, wrong, played};
 ghost use Rattle.replayed.specs.Given.{reached, replayedWith};
 use bank::Answer;
 use bank::Bank;
+use bank::Heads;
 use bank::State;
 use letters::Parsed;
 use replayed::Reached;
@@ -18,6 +20,7 @@ use replayed::Replayed;
 // The first `n` records, on a state and its lent tables: a layer, no interface.
 fn replay_parts(
     st: State,
+    heads: Heads,
     flags: &mut [u8; 128],
     commands: &mut [u32; 16],
     payloads: &mut [u32; 16],
@@ -27,10 +30,11 @@ fn replay_parts(
     records: &[u8],
     n: usize,
 ) -> Reached
-    requires { ⌜ (fault ≡ faultNumber (bankWith st (tables (now flags) (now commands) (now payloads) (now output))) (length (now store))) × (12 * n ≤ length (now records)) ⌝ }
-    ensures { λ r. ⌜ reached r (tables (now (flags .exit)) (now (commands .exit)) (now (payloads .exit)) (now (output .exit))) (now (store .exit)) ≡ each did wrong n (now (records .entry)) 0 (begun 0 (controller (bankWith st (tables (now (flags .entry)) (now (commands .entry)) (now (payloads .entry)) (now (output .entry)))) (now (store .entry)) (now (output .entry)))) ⌝ }
+    requires { ⌜ (fault ≡ faultNumber (bankWith st heads (tables (now flags) (now commands) (now payloads) (now output))) (length (now store))) × (12 * n ≤ length (now records)) ⌝ }
+    ensures { λ r. ⌜ reached r (tables (now (flags .exit)) (now (commands .exit)) (now (payloads .exit)) (now (output .exit))) (now (store .exit)) ≡ each did wrong n (now (records .entry)) 0 (begun 0 (controller (bankWith st heads (tables (now (flags .entry)) (now (commands .entry)) (now (payloads .entry)) (now (output .entry)))) (now (store .entry)) (now (output .entry)))) ⌝ }
 {
     let mut s = st;
+    let mut h = heads;
     let mut a = Answer {
         value: 0,
         number: 0,
@@ -40,6 +44,7 @@ fn replay_parts(
             Parsed::Named(c) => {
                 let y = controller::step_parts(
                     s,
+                    h,
                     flags,
                     commands,
                     payloads,
@@ -49,14 +54,15 @@ fn replay_parts(
                     c,
                 );
                 s = y.state;
+                h = y.heads;
                 a = y.answer;
             }
             Parsed::Skipped => {
-                return replayed::stopped(s, i, a);
+                return replayed::stopped(s, h, i, a);
             }
         }
     }
-    replayed::reach(s, 0, n, a)
+    replayed::reach(s, h, 0, n, a)
 }
 
 // The records in some bytes, at most `limit` of them; a wrong one ends it. The output is lent to each call.
@@ -76,6 +82,7 @@ pub fn play(
     let mut p = b.payloads;
     let y = replay_parts(
         b.state,
+        b.heads,
         &mut f,
         &mut c,
         &mut p,

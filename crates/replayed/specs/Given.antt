@@ -11,7 +11,7 @@ use Rattle.replayed.specs.declared.Replayed.{Replayed}
 
 -- over the tables, the store and the output that it left
 abbrev pub reached : Reached → Tables → List ℕ → Replay
-reached r t s = record { told = r .told; left = controller (bankWith (r .state) t) s (t .output) }
+reached r t s = record { told = r .told; left = controller (bankWith (r .state) (r .heads) t) s (t .output) }
 
 abbrev pub replayedWith : Replayed → List ℕ → List ℕ → Replay
 replayedWith r s o = record { told = r .told; left = controller (r .bank) s o }

@@ -3,12 +3,13 @@
 ghost use mathlib.Core.Path.{_≡_};
 ghost use mathlib.Core.List.{List, []};
 ghost use Prim.Native.Nat.{ℕ};
-ghost use Rattle.model.specs.View.{Tables};
-ghost use Rattle.answer.specs.Given.{bankWith, controller, tables};
+ghost use Rattle.model.specs.View.{Tables, tables};
+ghost use Rattle.answer.specs.Given.{bankWith, controller};
 ghost use Rattle.playback_model.specs.Replay.{telling, begun, wrong};
 ghost use Rattle.replayed.specs.Given.{reached, replayedWith, replayedOut};
 use bank::Answer;
 use bank::Bank;
+use bank::Heads;
 use bank::State;
 use playback_model::Told;
 
@@ -21,12 +22,13 @@ pub struct Replayed {
 // The state after some records; the tables stay where they are.
 pub struct Reached {
     pub state: State,
+    pub heads: Heads,
     pub told: Told,
 }
 
 // What is told of some records, and the state that they left.
-pub fn reach(s: State, number: u32, count: usize, a: Answer) -> Reached
-    ensures { λ r. ⌜ ((t : Tables) (st : List ℕ) → reached r t st ≡ telling number count a (controller (bankWith s t) st (t .output))) ⌝ }
+pub fn reach(s: State, h: Heads, number: u32, count: usize, a: Answer) -> Reached
+    ensures { λ r. ⌜ ((t : Tables) (st : List ℕ) → reached r t st ≡ telling number count a (controller (bankWith s h t) st (t .output))) ⌝ }
 {
     let told = Told {
         number: number,
@@ -35,15 +37,16 @@ pub fn reach(s: State, number: u32, count: usize, a: Answer) -> Reached
     };
     Reached {
         state: s,
+        heads: h,
         told: told,
     }
 }
 
 // A wrong record stops a replay with those before it done: so many, and the answer of the last.
-pub fn stopped(s: State, done: usize, a: Answer) -> Reached
-    ensures { λ r. ⌜ ((t : Tables) (st : List ℕ) → reached r t st ≡ wrong (telling 0 done a (controller (bankWith s t) st (t .output)))) ⌝ }
+pub fn stopped(s: State, h: Heads, done: usize, a: Answer) -> Reached
+    ensures { λ r. ⌜ ((t : Tables) (st : List ℕ) → reached r t st ≡ wrong (telling 0 done a (controller (bankWith s h t) st (t .output)))) ⌝ }
 {
-    reach(s, 27, done, a)
+    reach(s, h, 27, done, a)
 }
 
 // A bank of a state and its tables, with what was told.
@@ -51,8 +54,10 @@ pub fn out_of(y: Reached, flags: [u8; 128], commands: [u32; 16], payloads: [u32;
     ensures { λ r. ⌜ ((s o : List ℕ) → replayedWith r s o ≡ reached y (tables flags commands payloads o) s) ⌝ }
 {
     let s = y.state;
+    let h = y.heads;
     let bank = Bank {
         state: s,
+        heads: h,
         flags: flags,
         commands: commands,
         payloads: payloads,

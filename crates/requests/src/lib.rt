@@ -1,36 +1,34 @@
-// Interrupt requests, address requests and address takes, behind the two tests of bank and store and the test of the
-// address: a layer, no interface.
+// Interrupt requests, address requests and address takes, as decisions, behind the test of the address.
 ghost use mathlib.Core.Path.{_≡_};
 ghost use mathlib.Core.Bool.{cond};
-ghost use mathlib.Core.List.{List};
-ghost use Prim.Native.Nat.{ℕ, _/_, _%_, _^_, _≤_};
+ghost use Prim.Native.Nat.{ℕ, _-_, _/_, _%_, _^_};
 ghost use lib.Count.{ones};
 ghost use lib.Dec.{eqb};
 ghost use lib.ListN.{getD};
-ghost use Rattle.ring.specs.Ring.{Valid};
 ghost use Rattle.bank.specs.declared.Phase.the-variants.{Requested, Answered};
 ghost use Rattle.model.specs.View.{Tables};
 ghost use Rattle.model.specs.Commands.{entryWord};
 ghost use Rattle.model.specs.Calls.{interrupted, interrupt, asked, request, takeAddress};
-ghost use Rattle.answer.specs.Given.{view, number, given, decided, Open};
-use answer::Next;
+ghost use Rattle.effect.specs.Effects.{effectOf, verdict, number};
+ghost use Rattle.effect.specs.Seen.{Fronts, seen};
 use bank::Control;
 use bank::Phase;
 use bank::State;
 use bank::Transfer;
 use bank::phases;
+use effect::Effect;
+use effect::Op;
 
 // The number of an interrupt request from an address that has the flags `f`, 0 where none of its tests holds.
 fn interrupt_number(st: State, f: u8) -> u32
-    ensures { λ n. ⌜ ((t : Tables) (s : List ℕ) (address byte : ℕ) → f ≡ getD (t .flags) address 0 → n ≡ number (interrupt (view st t s) address byte)) ⌝ }
+    ensures { λ n. ⌜ ((t : Tables) (x : Fronts) (address byte : ℕ) → f ≡ getD (t .flags) address 0 → n ≡ number (interrupt (seen st t x) address byte)) ⌝ }
 {
     let p = st.phase;
     let config = st.regs.config;
-    let ibi = st.queues.ibi;
     let busy = !(phases::stage_of(p) == phases::IDLE);
     let listens = config / 2 % 2 == 1;
     let admits = (config / 1 % 2 == 1) & (f / 1 % 2 == 1) & (f / 2 % 2 == 1);
-    let full = ibi.cap.0 <= ibi.level.0;
+    let full = st.caps.ibi.0 <= st.levels.ibi.0;
     let tail = bank::select(
         !listens,
         16,
@@ -63,24 +61,20 @@ fn accept(c: Control) -> Control
     next
 }
 
-// An interrupt request of a device.
-pub fn interrupt(st: State, flags: &[u8; 128], store: &mut [u32], address: u8, byte: u8) -> Next
-    requires { ⌜ (Open st (now store)) × (address ≤ 127) ⌝ }
-    ensures { λ y. ⌜ ((t : Tables) → t .flags ≡ now (flags .entry) → given y t (now (store .exit)) ≡ decided st t (now (store .entry)) (interrupt (view st t (now (store .entry))) address byte)) ⌝ }
+// An interrupt request of the device at an address, which has the flags `f`.
+pub fn interrupt(st: State, f: u8, address: u8, byte: u8) -> Effect
+    ensures { λ e. ⌜ ((t : Tables) (x : Fronts) → f ≡ getD (t .flags) address 0 → effectOf e t ≡ verdict (λ v. interrupt v address byte) (seen st t x)) ⌝ }
 {
-    let f = flags[address as usize];
     let n = interrupt_number(st, f);
     if n != 0 {
-        return answer::refuse(st, n);
+        return effect::refuse(st, n);
     }
-    let e = entry(address, data_byte(f / 4 % 2 == 1, byte), st.control.ibisync);
-    let base = answer::ibi_at(st.queues);
-    let mut q = st.queues;
-    q.ibi = answer::push_if(st.queues.ibi, base, store, true, e);
+    let w = entry(address, data_byte(f / 4 % 2 == 1, byte), st.control.ibisync);
     let g = st.regs;
     let c = accept(st.control);
     let p = st.phase;
-    answer::done(q, g, c, p, e, 0)
+    let o = effect::on_ibi(true, Op::Push(w));
+    effect::done(st, w, 0, g, c, p, o)
 }
 
 // Pending bit 7, set where `b` holds.
@@ -94,14 +88,12 @@ fn ask(c: Control, b: bool) -> Control
 
 // The number of an address request, 0 where none of its tests holds.
 fn request_number(st: State) -> u32
-    requires { ⌜ Valid (st .queues .sdi) ⌝ }
-    ensures { λ n. ⌜ ((t : Tables) (s : List ℕ) (v w : ℕ) → n ≡ number (request (view st t s) v w)) ⌝ }
+    ensures { λ n. ⌜ ((t : Tables) (f : Fronts) (v w : ℕ) → n ≡ number (request (seen st t f) v w)) ⌝ }
 {
     let p = st.phase;
-    let sdi = st.queues.sdi;
     let stage = phases::stage_of(p);
     let barred = !(phases::UNREQUESTED <= stage) | (stage == phases::REQUESTED);
-    let room = sdi.cap.0 - sdi.level.0;
+    let room = bank::room(st.caps.sdi.0, st.levels.sdi.0);
     let tail = bank::select(barred, 10, bank::select(room < 2, 13, 0));
     bank::select(
         st.control.held,
@@ -111,31 +103,28 @@ fn request_number(st: State) -> u32
 }
 
 // An address request of a device, whose two words go to SDI.
-pub fn request(st: State, store: &mut [u32], v: u32, w: u32) -> Next
-    requires { ⌜ Open st (now store) ⌝ }
-    ensures { λ y. ⌜ ((t : Tables) → given y t (now (store .exit)) ≡ decided st t (now (store .entry)) (request (view st t (now (store .entry))) v w)) ⌝ }
+pub fn request(st: State, x: u32, w: u32) -> Effect
+    ensures { λ e. ⌜ ((t : Tables) (f : Fronts) → effectOf e t ≡ verdict (λ v. request v x w) (seen st t f)) ⌝ }
 {
     let n = request_number(st);
     if n != 0 {
-        return answer::refuse(st, n);
+        return effect::refuse(st, n);
     }
     let p = st.phase;
     let t = phases::transfer_of(p);
-    let base = answer::sdi_at(st.queues);
-    let mut q = st.queues;
-    q.sdi = answer::push_two(st.queues.sdi, base, store, v, w);
     let g = st.regs;
-    let c = ask(st.control, st.queues.sdo.level.0 == 0);
-    answer::done(q, g, c, Phase::Requested(t), 0, 0)
+    let c = ask(st.control, st.levels.sdo.0 == 0);
+    let o = effect::on_sdi(true, Op::Push2(x, w));
+    effect::done(st, 0, 0, g, c, Phase::Requested(t), o)
 }
 
 // The number of an address take, 0 where none of its tests holds.
 fn take_number(st: State) -> u32
-    ensures { λ n. ⌜ ((t : Tables) (s : List ℕ) → n ≡ number (takeAddress (view st t s))) ⌝ }
+    ensures { λ n. ⌜ ((t : Tables) (f : Fronts) → n ≡ number (takeAddress (seen st t f))) ⌝ }
 {
     let p = st.phase;
     let stage = phases::stage_of(p);
-    let none = st.queues.sdo.level.0 == 0;
+    let none = st.levels.sdo.0 == 0;
     let tail = bank::select(!(stage == phases::REQUESTED), 10, bank::select(none, 12, 0));
     bank::select(
         st.control.held,
@@ -161,22 +150,20 @@ fn replied(odd: bool, t: Transfer) -> Phase
     Phase::Requested(t)
 }
 
-// The address for the open request, taken from SDO.
-pub fn take_address(st: State, store: &[u32]) -> Next
-    requires { ⌜ Open st (now store) ⌝ }
-    ensures { λ y. ⌜ ((t : Tables) → given y t (now (store .entry)) ≡ decided st t (now (store .entry)) (takeAddress (view st t (now (store .entry))))) ⌝ }
+// The address for the open request, taken from SDO, whose first word is `word`.
+pub fn take_address(st: State, word: u32) -> Effect
+    ensures { λ e. ⌜ ((t : Tables) (f : Fronts) → word ≡ f .sdo .first → effectOf e t ≡ verdict takeAddress (seen st t f)) ⌝ }
 {
     let n = take_number(st);
     if n != 0 {
-        return answer::refuse(st, n);
+        return effect::refuse(st, n);
     }
     let p = st.phase;
-    let w = answer::sdo_first(st.queues, store);
-    let odd = is_odd(w);
+    let odd = is_odd(word);
     let next = replied(odd, phases::transfer_of(p));
-    let mut q = st.queues;
-    q.sdo = answer::take(st.queues.sdo, 1);
     let g = st.regs;
-    let c = ask(st.control, !odd & (st.queues.sdo.level.0 <= 1));
-    answer::done(q, g, c, next, w / 33554432, bank::select(odd, 0, 19))
+    let c = ask(st.control, !odd & (st.levels.sdo.0 <= 1));
+    let n = bank::select(odd, 0, 19);
+    let o = effect::on_sdo(true, Op::Take(1));
+    effect::done(st, word / 33554432, n, g, c, next, o)
 }

@@ -18,14 +18,14 @@ abbrev pub placeOf : Ring → ℕ → ℕ
 placeOf r i = (r .head + i) % r .cap .0
 
 abbrev pub pushedOf : Ring → Ring
-pushedOf r = record { cap = r .cap; mark = r .mark; head = r .head; level = record { 0 = r .level .0 + 1 } }
+pushedOf r = record { cap = r .cap; head = r .head; level = record { 0 = r .level .0 + 1 } }
 
 -- without its first k entries
 abbrev pub takenOf : Ring → ℕ → Ring
-takenOf r k = record { cap = r .cap; mark = r .mark; head = placeOf r k; level = record { 0 = r .level .0 - k } }
+takenOf r k = record { cap = r .cap; head = placeOf r k; level = record { 0 = r .level .0 - k } }
 
 abbrev pub clearedOf : Ring → Ring
-clearedOf r = record { cap = r .cap; mark = r .mark; head = 0; level = record { 0 = 0 } }
+clearedOf r = record { cap = r .cap; head = 0; level = record { 0 = 0 } }
 
 -- the n words of a store at the places at 0, at 1, ..
 abbrev pub readAll : List ℕ → (ℕ → ℕ) → ℕ → List ℕ

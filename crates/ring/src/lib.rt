@@ -19,10 +19,9 @@ pub fn words_for(b: Bytes) -> Words
     Words(b.0 / 4 + (b.0 % 4 + 3) / 4)
 }
 
-// A queue: its capacity and watermark, the place of its first entry within its area, and how many entries it has.
+// A queue: its capacity, the place of its first entry within its area, and how many entries it has.
 pub struct Ring {
     pub cap: Words,
-    pub mark: Words,
     pub head: u32,
     pub level: Words,
 }
@@ -40,11 +39,10 @@ pub fn place(r: Ring, i: u32) -> u32
 // A ring with another head and another level, put together field by field: fields that are copied in one piece stay in
 // memory through a list of calls, stored apart and loaded together, which stalls.
 pub fn moved(r: Ring, head: u32, level: u32) -> Ring
-    ensures { λ p. ⌜ p ≡ record { cap = r .cap; mark = r .mark; head = head; level = record { 0 = level } } ⌝ }
+    ensures { λ p. ⌜ p ≡ record { cap = r .cap; head = head; level = record { 0 = level } } ⌝ }
 {
     Ring {
         cap: Words(r.cap.0),
-        mark: Words(r.mark.0),
         head: head,
         level: Words(level),
     }

@@ -3,7 +3,7 @@ use mathlib.Core.Path.{_≡_, refl}
 use mathlib.Core.List.{[], _∷_}
 use lib.Count.{ones}
 use Rattle.ring.specs.Ring.{entries}
-use Rattle.bank.specs.SetUp.{sizesOk, setUp}
+use Rattle.bank.specs.SetUp.{capsOk, marksOk, sizesOk, setUp}
 use Rattle.bank.specs.Bursts.{allCarried, readsIn}
 use Rattle.bank.specs.Formed.{queuesOk, regsOk, flagsOk, phaseOk, burstOk, openOk, queuesClear, controlClear, resetOk, wellFormed}
 use Rattle.registers.specs.Map.{named, offload, find}
@@ -38,5 +38,5 @@ pub worked : printed session
     ∷ 0x30 ∷ 0x30 ∷ 0x30 ∷ 0x30 ∷ 0x30 ∷ 0x32 ∷ 0x30 ∷ 0x30 ∷ 0x20 ∷ 0x30 ∷ 0x30 ∷ 0x0a
     ∷ 0x30 ∷ 0x30 ∷ 0x30 ∷ 0x30 ∷ 0x30 ∷ 0x32 ∷ 0x30 ∷ 0x30 ∷ 0x20 ∷ 0x30 ∷ 0x30 ∷ 0x0a
     ∷ 0x30 ∷ 0x30 ∷ 0x30 ∷ 0x30 ∷ 0x30 ∷ 0x30 ∷ 0x30 ∷ 0x30 ∷ 0x20 ∷ 0x30 ∷ 0x33 ∷ 0x0a ∷ []
-unfolding entries sizesOk setUp queuesOk regsOk flagsOk phaseOk burstOk openOk allCarried readsIn queuesClear controlClear resetOk wellFormed kindOf isEntdaa isRead isWrite lengthOf begun receiptWord entryWord named offload find enable start send receive allowed padded finish interrupt request takeAddress short trigger burstSend burstReceive burstFinish step onRing onStore guardRings ones letters.forms letters.find fed
+unfolding entries capsOk marksOk sizesOk setUp queuesOk regsOk flagsOk phaseOk burstOk openOk allCarried readsIn queuesClear controlClear resetOk wellFormed kindOf isEntdaa isRead isWrite lengthOf begun receiptWord entryWord named offload find enable start send receive allowed padded finish interrupt request takeAddress short trigger burstSend burstReceive burstFinish step onRing onStore guardRings ones letters.forms letters.find fed
 worked = refl

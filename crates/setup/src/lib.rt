@@ -1,54 +1,71 @@
 // Set-up: the bank that five capacities, five watermarks and an ID give.
 ghost use mathlib.Core.Path.{_≡_};
-ghost use Rattle.bank.specs.SetUp.{sizesOk, ringOf, queuesOf, bankOf, refused, setUp};
+ghost use Rattle.bank.specs.SetUp.{countsOf, sizesOk, zeros, noHeads, bankOf, refused, setUp};
 use bank::Answer;
 use bank::Bank;
+use bank::Counts;
+use bank::Heads;
 use bank::Phase;
-use bank::Queues;
 use bank::Regs;
 use bank::SetUp;
 use bank::Sizes;
 use bank::State;
-use ring::Ring;
 use ring::Words;
+
+// Numbers as a caller gives them, as counts of words.
+fn counts_of(s: Sizes) -> Counts
+    ensures { λ r. ⌜ r ≡ countsOf s ⌝ }
+{
+    Counts {
+        cmd: Words(s.cmd),
+        cmdr: Words(s.cmdr),
+        sdo: Words(s.sdo),
+        sdi: Words(s.sdi),
+        ibi: Words(s.ibi),
+    }
+}
 
 fn sizes_ok(caps: Sizes, marks: Sizes) -> bool
     ensures { λ b. ⌜ b ≡ sizesOk caps marks ⌝ }
 {
-    bank::size_ok(2, caps.cmd, marks.cmd)
-        & bank::size_ok(1, caps.cmdr, marks.cmdr)
-        & bank::size_ok(1, caps.sdo, marks.sdo)
-        & bank::size_ok(2, caps.sdi, marks.sdi)
-        & bank::size_ok(1, caps.ibi, marks.ibi)
+    bank::size_ok(2, caps.cmd)
+        & bank::size_ok(1, caps.cmdr)
+        & bank::size_ok(1, caps.sdo)
+        & bank::size_ok(2, caps.sdi)
+        & bank::size_ok(1, caps.ibi)
+        & bank::marks_ok(counts_of(marks), counts_of(caps))
 }
 
-fn fresh_ring(cap: u32, mark: u32) -> Ring
-    ensures { λ r. ⌜ r ≡ ringOf cap mark ⌝ }
+fn no_sizes() -> Sizes
+    ensures { λ r. ⌜ r ≡ zeros ⌝ }
 {
-    Ring {
-        cap: Words(cap),
-        mark: Words(mark),
-        head: 0,
-        level: Words(0),
+    Sizes {
+        cmd: 0,
+        cmdr: 0,
+        sdo: 0,
+        sdi: 0,
+        ibi: 0,
     }
 }
 
-fn fresh_queues(caps: Sizes, marks: Sizes) -> Queues
-    ensures { λ r. ⌜ r ≡ queuesOf caps marks ⌝ }
+fn no_heads() -> Heads
+    ensures { λ r. ⌜ r ≡ noHeads ⌝ }
 {
-    Queues {
-        cmd: fresh_ring(caps.cmd, marks.cmd),
-        cmdr: fresh_ring(caps.cmdr, marks.cmdr),
-        sdo: fresh_ring(caps.sdo, marks.sdo),
-        sdi: fresh_ring(caps.sdi, marks.sdi),
-        ibi: fresh_ring(caps.ibi, marks.ibi),
+    Heads {
+        cmd: 0,
+        cmdr: 0,
+        sdo: 0,
+        sdi: 0,
+        ibi: 0,
     }
 }
 
 fn fresh_bank(caps: Sizes, marks: Sizes, held: bool, id: u8) -> Bank
     ensures { λ r. ⌜ r ≡ bankOf caps marks held id ⌝ }
 {
-    let q = fresh_queues(caps, marks);
+    let k = counts_of(caps);
+    let l = counts_of(no_sizes());
+    let m = counts_of(marks);
     let c = bank::cleared_control(held);
     let g = Regs {
         id: id,
@@ -57,15 +74,19 @@ fn fresh_bank(caps: Sizes, marks: Sizes, held: bool, id: u8) -> Bank
         ops: 0,
         config: 0,
         selected: 0,
+        marks: m,
     };
     let s = State {
-        queues: q,
+        caps: k,
+        levels: l,
         regs: g,
         control: c,
         phase: Phase::Idle,
     };
+    let h = no_heads();
     Bank {
         state: s,
+        heads: h,
         flags: [0u8; 128],
         commands: [0u32; 16],
         payloads: [0u32; 16],
@@ -75,13 +96,7 @@ fn fresh_bank(caps: Sizes, marks: Sizes, held: bool, id: u8) -> Bank
 fn refused_set_up() -> SetUp
     ensures { λ r. ⌜ r ≡ refused ⌝ }
 {
-    let none = Sizes {
-        cmd: 0,
-        cmdr: 0,
-        sdo: 0,
-        sdi: 0,
-        ibi: 0,
-    };
+    let none = no_sizes();
     let b = fresh_bank(none, none, false, 0);
     let a = Answer {
         value: 0,

@@ -10,7 +10,7 @@ use Rattle.stream_lines.specs.declared.Shown.{Shown}
 
 -- over the tables, the store and the output that it left, and the text
 abbrev pub shownParts : Lines → Tables → List ℕ → List ℕ → Printed
-shownParts r t s text = printed (controller (bankWith (r .state) t) s (t .output)) (take (r .count) text) (r .wrong)
+shownParts r t s text = printed (controller (bankWith (r .state) (r .heads) t) s (t .output)) (take (r .count) text) (r .wrong)
 
 -- the same with no output: an empty one stays empty
 abbrev pub shownBank : Shown → List ℕ → List ℕ → Printed

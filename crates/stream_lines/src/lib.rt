@@ -6,18 +6,21 @@ ghost use mathlib.Core.Bool.{false};
 ghost use mathlib.Core.List.{List, []};
 ghost use Prim.Native.Nat.{ℕ, _*_, _≤_};
 ghost use lib.ListN.{length};
-ghost use Rattle.answer.specs.Given.{bankWith, controller, tables};
+ghost use Rattle.model.specs.View.{tables};
+ghost use Rattle.answer.specs.Given.{bankWith, controller};
 ghost use Rattle.faults.specs.Faults.{faultNumber};
 ghost use Rattle.record_model.specs.Record.{each};
 ghost use Rattle.stream_model.specs.Stream.{printed, said, met, lines};
 ghost use Rattle.stream_lines.specs.Given.{shownParts, shownBank};
 use bank::Bank;
+use bank::Heads;
 use bank::State;
 use letters::Parsed;
 
-// The state after some records, whether a wrong one was met, and how many bytes of the text are filled.
+// The state and the heads after some records, whether a wrong one was met, and how many bytes of the text are filled.
 struct Lines {
     state: State,
+    heads: Heads,
     wrong: bool,
     count: usize,
 }
@@ -32,6 +35,7 @@ pub struct Shown {
 // The first `n` records and their lines, on a state and its lent tables: a layer, no interface.
 fn show_parts(
     st: State,
+    heads: Heads,
     flags: &mut [u8; 128],
     commands: &mut [u32; 16],
     payloads: &mut [u32; 16],
@@ -42,15 +46,17 @@ fn show_parts(
     n: usize,
     out: &mut [u8],
 ) -> Lines
-    requires { ⌜ (fault ≡ faultNumber (bankWith st (tables (now flags) (now commands) (now payloads) (now output))) (length (now store))) × (12 * n ≤ length (now records)) × (12 * n ≤ length (now out)) ⌝ }
-    ensures { λ r. ⌜ (shownParts r (tables (now (flags .exit)) (now (commands .exit)) (now (payloads .exit)) (now (output .exit))) (now (store .exit)) (now (out .exit)) ≡ each said met n (now (records .entry)) 0 (printed (controller (bankWith st (tables (now (flags .entry)) (now (commands .entry)) (now (payloads .entry)) (now (output .entry)))) (now (store .entry)) (now (output .entry))) [] false)) × (r .count ≤ 12 * n) ⌝ }
+    requires { ⌜ (fault ≡ faultNumber (bankWith st heads (tables (now flags) (now commands) (now payloads) (now output))) (length (now store))) × (12 * n ≤ length (now records)) × (12 * n ≤ length (now out)) ⌝ }
+    ensures { λ r. ⌜ (shownParts r (tables (now (flags .exit)) (now (commands .exit)) (now (payloads .exit)) (now (output .exit))) (now (store .exit)) (now (out .exit)) ≡ each said met n (now (records .entry)) 0 (printed (controller (bankWith st heads (tables (now (flags .entry)) (now (commands .entry)) (now (payloads .entry)) (now (output .entry)))) (now (store .entry)) (now (output .entry))) [] false)) × (r .count ≤ 12 * n) ⌝ }
 {
     let mut s = st;
+    let mut h = heads;
     for i in 0..n {
         match record::at(records, i) {
             Parsed::Named(c) => {
                 let y = controller::step_parts(
                     s,
+                    h,
                     flags,
                     commands,
                     payloads,
@@ -60,12 +66,14 @@ fn show_parts(
                     c,
                 );
                 s = y.state;
+                h = y.heads;
                 let text = print::line(y.answer);
                 print::put(out, 12 * i, text);
             }
             Parsed::Skipped => {
                 return Lines {
                     state: s,
+                    heads: h,
                     wrong: true,
                     count: 12 * i,
                 };
@@ -74,6 +82,7 @@ fn show_parts(
     }
     Lines {
         state: s,
+        heads: h,
         wrong: false,
         count: 12 * n,
     }
@@ -84,8 +93,10 @@ fn shown_of(y: Lines, flags: [u8; 128], commands: [u32; 16], payloads: [u32; 16]
     ensures { λ r. ⌜ ((s t : List ℕ) → shownBank r s t ≡ shownParts y (tables flags commands payloads []) s t) × (r .count ≡ y .count) ⌝ }
 {
     let s = y.state;
+    let h = y.heads;
     let bank = Bank {
         state: s,
+        heads: h,
         flags: flags,
         commands: commands,
         payloads: payloads,
@@ -109,6 +120,7 @@ pub fn show(b: Bank, store: &mut [u32], records: &[u8], n: usize, out: &mut [u8]
     let mut none = [0u32; 0];
     let y = show_parts(
         b.state,
+        b.heads,
         &mut f,
         &mut c,
         &mut p,

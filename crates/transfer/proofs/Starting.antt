@@ -1,39 +1,27 @@
--- What a start's passed tests tell, and what it does where they pass.
-use Prim.Native.Nat.{ℕ, _≤_}
+-- What a start does where its tests pass, with the word that it saw in place of its command's first.
+use Prim.Native.Nat.{ℕ}
 use mathlib.Core.Path.{_≡_, refl, ap, sym, _∙_}
 use mathlib.Core.Bool.{cond, _||_}
-use mathlib.Core.List.{List}
 use lib.ListN.{getD}
-use borrow.Author.Tests.{not-false}
-use Rattle.bank.specs.declared.State.{State}
 use Rattle.bank.specs.Phases.{broadcast}
 use Rattle.bank.specs.Bits.{bit, bits}
-use Rattle.model.specs.View.{Tables, View}
-use Rattle.model.specs.Decision.{take}
+use Rattle.model.specs.View.{each, View}
+use Rattle.model.specs.Decision.{keep, take, Effect, unchanged, _withValue_, _withPhase_, _withQueues_}
 use Rattle.model.specs.Commands.{twoWords, kindOf, begun}
-use Rattle.model.specs.Calls.{start, whole, wordCount}
-use Rattle.model.specs.Rings.{onRing, onStore}
-use Rattle.model.proofs.Room.{command-there}
-use Rattle.answer.specs.Given.{view, number, given, doneNext, decided}
-use Rattle.answer.proofs.Laws.{cleared, served-by}
+use Rattle.model.specs.Calls.{start}
+use Rattle.effect.specs.Effects.{number, verdict}
+use Rattle.effect.proofs.Laws.{served-as}
 use Rattle.transfer.specs.Word.{commandOf}
 use Rattle.transfer.proofs.Words.{first-word}
 
--- a whole command waits
-pub starts : (s : View) → number (start s) ≡ 0 → wordCount (s .queues .cmd) ≤ s .queues .cmd .level
-unfolding start
-starts s e = command-there (s .queues .cmd .level) (twoWords (s .queues .cmd .first)) (not-false (whole (s .queues .cmd)) (cleared (start s) refl e .1 .1 .1 .0))
+module _ (v : View) where
+  -- what a start of the command at hand does, its first word told by y
+  abbrev by : ℕ → Effect
+  by y =
+      let w = v .queues .cmd .first in
+      let c = commandOf (twoWords w) w (v .queues .cmd .second) in
+      unchanged v withValue y withPhase begun c (broadcast (kindOf c) || bit 0 (getD (v .tables .flags) (bits 7 1 y) 0)) withQueues each (take (cond (twoWords w) 2 1)) keep keep keep keep
 
-module _ (st : State) (t : Tables) (s : List ℕ) where
-  pub started : number (start (view st t s)) ≡ 0
-      → let q = st .queues in
-      let w = view st t s .queues .cmd .first in
-      let c = commandOf (twoWords w) w (view st t s .queues .cmd .second) in
-      given (doneNext (record { cmd = onRing (take (cond (twoWords w) 2 1)) (q .cmd); cmdr = q .cmdr; sdo = q .sdo; sdi = q .sdi; ibi = q .ibi }) (st .regs) (st .control) (begun c (broadcast (kindOf c) || bit 0 (getD (t .flags) (bits 7 1 w) 0))) w 0) t s ≡ decided st t s (start (view st t s))
-  unfolding start onRing onStore
-  started e =
-      let q = st .queues in
-      let w = view st t s .queues .cmd .first in
-      let c = commandOf (twoWords w) w (view st t s .queues .cmd .second) in
-      ap (λ (v : ℕ). given (doneNext (record { cmd = onRing (take (cond (twoWords w) 2 1)) (q .cmd); cmdr = q .cmdr; sdo = q .sdo; sdi = q .sdi; ibi = q .ibi }) (st .regs) (st .control) (begun c (broadcast (kindOf c) || bit 0 (getD (t .flags) (bits 7 1 v) 0))) v 0) t s) (sym (first-word (twoWords w) w (view st t s .queues .cmd .second)))
-      ∙ served-by st t s (start (view st t s)) refl e
+  pub started : number (start v) ≡ 0 → by (v .queues .cmd .first) ≡ verdict start v
+  unfolding start
+  started e = let w = v .queues .cmd .first in ap by (sym (first-word (twoWords w) w (v .queues .cmd .second))) ∙ served-as start v refl e

@@ -1,25 +1,24 @@
-// The start and the end of a transfer outside a burst, behind the two tests of bank and store and the test of the code: a
-// layer, no interface.
+// The start and the end of a transfer outside a burst, as decisions, behind the test of the code.
 ghost use mathlib.Core.Path.{_≡_};
 ghost use mathlib.Core.Bool.{cond, true, _||_};
-ghost use Prim.Native.Nat.{ℕ, _≤_, _<_};
-ghost use mathlib.Core.List.{List};
-ghost use lib.ListN.{getD};
+ghost use Prim.Native.Nat.{_≤_, _<_};
 ghost use Rattle.bank.specs.Phases.{broadcast};
 ghost use Rattle.bank.specs.Formed.{phaseOk};
-ghost use Rattle.bank.specs.Bits.{bit, bits};
+ghost use Rattle.bank.specs.Bits.{bit};
 ghost use Rattle.model.specs.View.{Tables};
 ghost use Rattle.model.specs.Commands.{Single, kindOf, isEntdaa, opened, begun, receiptWord};
 ghost use Rattle.model.specs.Calls.{start, finish, endsEntdaa, endsOther, allowed, padded, receipted};
-ghost use Rattle.answer.specs.Given.{view, number, given, decided, tables, Open};
+ghost use Rattle.effect.specs.Effects.{effectOf, verdict, number};
+ghost use Rattle.effect.specs.Seen.{Fronts, seen, flagsOf};
 ghost use Rattle.transfer.specs.Word.{commandOf};
-use answer::Next;
 use bank::Control;
 use bank::Kind;
 use bank::Phase;
 use bank::State;
 use bank::Transfer;
 use bank::phases;
+use effect::Effect;
+use effect::Op;
 use ring::Bytes;
 
 // One of two answers, by a test.
@@ -80,33 +79,31 @@ fn begun_by(two: bool, w: u32, x: u32, attached: bool) -> Phase
 }
 
 // Whether the device of a command is attached now; a broadcast has none.
-fn is_attached(flags: &[u8; 128], k: Kind, w: u32) -> bool
-    ensures { λ r. ⌜ r ≡ (broadcast k || bit 0 (getD (now (flags .entry)) (bits 7 1 w) 0)) ⌝ }
+fn is_attached(k: Kind, flags: u8) -> bool
+    ensures { λ r. ⌜ r ≡ (broadcast k || bit 0 flags) ⌝ }
 {
-    let at = (w / 2 % 128) as usize;
-    let f = flags[at];
-    phases::is_broadcast(k) | (f / 1 % 2 == 1)
+    phases::is_broadcast(k) | (flags / 1 % 2 == 1)
 }
 
 // The transfer that a private command opens: its device may be attached now.
-pub fn private_phase(flags: &[u8; 128], w: u32) -> Phase
-    ensures { λ p. ⌜ p ≡ begun (Single w) (broadcast (kindOf (Single w)) || bit 0 (getD (now (flags .entry)) (bits 7 1 w) 0)) ⌝ }
+pub fn private_phase(w: u32, flags: u8) -> Phase
+    ensures { λ p. ⌜ p ≡ begun (Single w) (broadcast (kindOf (Single w)) || bit 0 flags) ⌝ }
 {
     let k = kind_of(false, w, 0);
-    let a = is_attached(flags, k, w);
+    let a = is_attached(k, flags);
     begun_by(false, w, 0, a)
 }
 
 // The number of a start, 0 where none of its tests holds: `w` and `x` are the first words of CMD.
 fn start_number(st: State, w: u32, x: u32) -> u32
-    ensures { λ n. ⌜ ((t : Tables) (s : List ℕ) → w ≡ view st t s .queues .cmd .first → x ≡ view st t s .queues .cmd .second → n ≡ number (start (view st t s))) ⌝ }
+    ensures { λ n. ⌜ ((t : Tables) (f : Fronts) → w ≡ f .cmd .first → x ≡ f .cmd .second → n ≡ number (start (seen st t f))) ⌝ }
 {
     let p = st.phase;
     let at = phases::stage_of(p);
     let two = w / 0x400000 % 2 == 1;
-    let level = st.queues.cmd.level.0;
+    let level = st.levels.cmd.0;
     let waits = choose(level == 0, false, choose(level == 1, !two, true));
-    let blocked = is_entdaa(two, w, x) & !(st.queues.sdo.level.0 == 0);
+    let blocked = is_entdaa(two, w, x) & !(st.levels.sdo.0 == 0);
     let n = bank::select(blocked, 15, 0);
     let n = bank::select(!waits, 9, n);
     let n = bank::select(st.regs.ops / 1 % 2 == 1, 8, n);
@@ -114,26 +111,22 @@ fn start_number(st: State, w: u32, x: u32) -> u32
     bank::select(st.control.held, 5, n)
 }
 
-// The first command of CMD starts.
-pub fn start(st: State, flags: &[u8; 128], store: &[u32]) -> Next
-    requires { ⌜ Open st (now store) ⌝ }
-    ensures { λ y. ⌜ ((c p o : List ℕ) → (let t = tables (now (flags .entry)) c p o in given y t (now (store .entry)) ≡ decided st t (now (store .entry)) (start (view st t (now (store .entry)))))) ⌝ }
+// The first command of CMD starts: `w` and `x` are the first words of CMD, `flags` those of the device that `w` names.
+pub fn start(st: State, w: u32, x: u32, flags: u8) -> Effect
+    ensures { λ e. ⌜ ((t : Tables) (f : Fronts) → w ≡ f .cmd .first → x ≡ f .cmd .second → flags ≡ flagsOf w t → effectOf e t ≡ verdict start (seen st t f)) ⌝ }
 {
-    let w = answer::cmd_word(st.queues, store, 0);
-    let x = answer::cmd_word(st.queues, store, 1);
     let n = start_number(st, w, x);
     if n != 0 {
-        return answer::refuse(st, n);
+        return effect::refuse(st, n);
     }
     let two = w / 0x400000 % 2 == 1;
     let k = kind_of(two, w, x);
-    let a = is_attached(flags, k, w);
+    let a = is_attached(k, flags);
     let p = begun_by(two, w, x, a);
-    let mut q = st.queues;
-    q.cmd = answer::take(st.queues.cmd, bank::select(two, 2, 1));
     let g = st.regs;
     let c = st.control;
-    answer::done(q, g, c, p, w, 0)
+    let o = effect::on_cmd(true, Op::Take(bank::select(two, 2, 1)));
+    effect::done(st, w, 0, g, c, p, o)
 }
 
 // ── Finish ─────────────────────────────────────────────────────────────────────────────────────────────────────
@@ -181,15 +174,15 @@ fn is_padded(p: Phase) -> bool
 
 // The number of a finish, 0 where none of its tests holds.
 fn finish_number(st: State, code: u8) -> u32
-    ensures { λ n. ⌜ ((t : Tables) (s : List ℕ) → n ≡ number (finish (view st t s) code)) ⌝ }
+    ensures { λ n. ⌜ ((t : Tables) (f : Fronts) → n ≡ number (finish (seen st t f) code)) ⌝ }
 {
     let p = st.phase;
     let at = phases::stage_of(p);
     let ends = is_allowed(p, code);
     let pads = is_padded(p);
-    let cmdr = st.queues.cmdr;
-    let sdi = st.queues.sdi;
-    let full = (cmdr.cap.0 <= cmdr.level.0) | (pads & (sdi.cap.0 <= sdi.level.0));
+    let k = st.caps;
+    let l = st.levels;
+    let full = (k.cmdr.0 <= l.cmdr.0) | (pads & (k.sdi.0 <= l.sdi.0));
     let n = bank::select(full, 13, 0);
     let n = bank::select(!ends, 14, n);
     let n = bank::select(at == phases::IDLE, 7, n);
@@ -214,24 +207,20 @@ fn counted(c: Control) -> Control
 }
 
 // The open transfer ends with a code.
-pub fn finish(st: State, store: &mut [u32], code: u8) -> Next
-    requires { ⌜ (Open st (now store)) × (phaseOk (st .phase) ≡ true) × (code ≤ 15) ⌝ }
-    ensures { λ y. ⌜ ((t : Tables) → given y t (now (store .exit)) ≡ decided st t (now (store .entry)) (finish (view st t (now (store .entry))) code)) ⌝ }
+pub fn finish(st: State, code: u8) -> Effect
+    requires { ⌜ (phaseOk (st .phase) ≡ true) × (code ≤ 15) ⌝ }
+    ensures { λ e. ⌜ ((t : Tables) (f : Fronts) → effectOf e t ≡ verdict (λ v. finish v code) (seen st t f)) ⌝ }
 {
     let n = finish_number(st, code);
     if n != 0 {
-        return answer::refuse(st, n);
+        return effect::refuse(st, n);
     }
     let p = st.phase;
     let t = phases::transfer_of(p);
     let pads = is_padded(p);
     let r = receipt(code, t.moved.0, st.control.sync);
-    let one = answer::cmdr_at(st.queues);
-    let two = answer::sdi_at(st.queues);
-    let mut q = st.queues;
-    q.cmdr = answer::push_if(st.queues.cmdr, one, store, true, r);
-    q.sdi = answer::push_if(st.queues.sdi, two, store, pads, t.part);
     let g = st.regs;
     let c = counted(st.control);
-    answer::done(q, g, c, Phase::Idle, r, 0)
+    let o = effect::receipt_and(r, pads, t.part);
+    effect::done(st, r, 0, g, c, Phase::Idle, o)
 }

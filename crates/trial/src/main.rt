@@ -83,8 +83,7 @@ fn lent(b: Bank, most: usize) -> usize
     ensures { λ n. ⌜ n ≤ most ⌝ }
 {
     let s = b.state;
-    let q = s.queues;
-    let n = bank::total_of(q);
+    let n = bank::total_of(s.caps);
     within(n, most)
 }
 

@@ -1,11 +1,14 @@
 -- `burst::finish` meets its contract.
-use mathlib.Core.Path.{refl, sym, _∙_}
-use Rattle.model.specs.Decision.{_⇒_∣_}
-use Rattle.answer.specs.Given.{view, tables}
-use Rattle.answer.proofs.Laws.{refused-by}
 use native.Mathlib.Omega.{arith}
+use mathlib.Core.Path.{refl, sym, _∙_}
+use Rattle.bank.specs.Phases.{reading, transfer}
+use Rattle.bank.specs.Bursts.{readsIn, place}
+use Rattle.model.specs.View.{tables}
+use Rattle.model.specs.Decision.{_⇒_∣_}
 use Rattle.model.specs.Bursts.{short, burstFinish}
-use Rattle.burst.proofs.Laws.{at-most-fifteen, finished}
+use Rattle.effect.specs.Seen.{seen}
+use Rattle.effect.proofs.Laws.{refused-as, served-as}
+use Rattle.burst.proofs.Laws.{at-most-fifteen, output-if}
 use borrow.Author.Needs.{needs}
 use Rattle.burst.proofs.finish.Statement.{statement}
 use Rattle.burst.proofs.finish.Tie as tie
@@ -17,15 +20,10 @@ refuse-requires : tie.Need-refuse-requires
 refuse-requires c κs = search needs
 
 returns : tie.Need-returns
-returns c =
-    let a = c .before .before .before .before in
-    let st = a .args .st in
-    let f = a .args .flags .now in
-    let ws = a .args .commands .now in
-    let o = a .args .output .now in
-    λ p s.
-    let t = tables f ws p o in
-    rw (c .refuse .ensures) (refused-by st t s (short (view st t s) ⇒ 13 ∣ burstFinish (view st t s) (a .args .code)) _ (c .before .if1 .taken) (c .before .before .finish-number .ensures f p s o refl))
+returns c = λ p o f h. let a = c .before .before .before in
+    let b = a .args .flags .now in
+    let t = tables b (a .args .commands .now) p o in
+    c .refuse .ensures t f ∙ refused-as (λ v. short v ⇒ 13 ∣ burstFinish v (a .args .code)) (seen (a .args .st) t f) _ (c .before .if1 .taken) (c .before .before .finish-number .ensures b p o f h)
 
 transfer-of-requires : tie.Need-transfer-of-requires
 transfer-of-requires c κs = search needs
@@ -34,81 +32,67 @@ stage-of-requires : tie.Need-stage-of-requires
 stage-of-requires c κs = search needs
 
 cast-k : tie.Need-cast-k
-cast-k c =
-    let a = c .before .before .before .before .before .before in
-    let st = a .args .st in
-    let ws = a .args .commands .now in
-    let b = at-most-fifteen (st .control) (st .regs) (st .phase) ws (a .pre .0) (a .pre .1) in
+cast-k c = let a = c .before .before .before .before .before in
+    let b = at-most-fifteen (a .args .st) (a .args .commands .now) (a .pre .0) (a .pre .1) in
     omega (arith, b .0)
 
 sub-reads-in : tie.Need-sub-reads-in
-sub-reads-in c =
-    let a = c .before .before .before .before .before .before .before in
-    let st = a .args .st in
-    let ws = a .args .commands .now in
-    let b = at-most-fifteen (st .control) (st .regs) (st .phase) ws (a .pre .0) (a .pre .1) in
+sub-reads-in c = let a = c .before .before .before .before .before in
+    let b = at-most-fifteen (a .args .st) (a .args .commands .now) (a .pre .0) (a .pre .1) in
     omega (arith, b .1)
 
 reads-in-requires : tie.Need-reads-in-requires
-reads-in-requires c κs =
-    let a = c .before .before .before .before .before .before .before in
-    let st = a .args .st in
-    let ws = a .args .commands .now in
-    let b = at-most-fifteen (st .control) (st .regs) (st .phase) ws (a .pre .0) (a .pre .1) in
+reads-in-requires c κs = let a = c .before .before .before .before .before in
+    let b = at-most-fifteen (a .args .st) (a .args .commands .now) (a .pre .0) (a .pre .1) in
     omega (arith, b .0)
 
-deliver-requires : tie.Need-deliver-requires
-deliver-requires c κs = search needs
+cast-place : tie.Need-cast-place
+cast-place c = let a = c .before .before .before .before .before .before in
+    let b = at-most-fifteen (a .args .st) (a .args .commands .now) (a .pre .0) (a .pre .1) in
+    let r = c .reads-in .ensures .1 in
+    omega (arith, b .0, r)
 
 span-of-requires : tie.Need-span-of-requires
 span-of-requires c κs = search needs
 
 mul-w : tie.Need-mul-w
-mul-w c =
-    let a = c .before .before .before .before .before .before .before .before .before .before .before .before in
-    let st = a .args .st in
-    let ws = a .args .commands .now in
-    let b = at-most-fifteen (st .control) (st .regs) (st .phase) ws (a .pre .0) (a .pre .1) in
+mul-w c = let a = c .before .before .before .before .before .before .before in
+    let b = at-most-fifteen (a .args .st) (a .args .commands .now) (a .pre .0) (a .pre .1) in
     omega (arith, b .0)
 
 element-copy-out-w : tie.Need-element-copy-out-w
-element-copy-out-w c =
-    let a = c .before .before .before .before .before .before .before .before .before .before .before .before in
-    let st = a .args .st in
-    let ws = a .args .commands .now in
-    let b = at-most-fifteen (st .control) (st .regs) (st .phase) ws (a .pre .0) (a .pre .1) in
+element-copy-out-w c = let a = c .before .before .before .before .before .before .before in
+    let b = at-most-fifteen (a .args .st) (a .args .commands .now) (a .pre .0) (a .pre .1) in
     omega (arith, b .0)
 
 next-phase-requires : tie.Need-next-phase-requires
 next-phase-requires c κs = search needs
 
 after-requires : tie.Need-after-requires
-after-requires c κs =
-    let a = c .before .before .before .before .before .before .before .before .before .before .before .before .before .before .before .before in
-    let st = a .args .st in
-    let ws = a .args .commands .now in
-    let b = at-most-fifteen (st .control) (st .regs) (st .phase) ws (a .pre .0) (a .pre .1) in
-    b .0
+after-requires c κs = let a = c .before .before .before .before .before .before .before .before .before .before in at-most-fifteen (a .args .st) (a .args .commands .now) (a .pre .0) (a .pre .1) .0
 
 stand-requires : tie.Need-stand-requires
 stand-requires c κs = search needs
 
-done-requires : tie.Need-done-requires
-done-requires c κs = search needs
+none-requires : tie.Need-none-requires
+none-requires c κs = search needs
 
-same-length : tie.Need-same-length
-same-length c = search needs
+table-if-requires : tie.Need-table-if-requires
+table-if-requires c κs = search needs
+
+done-with-requires : tie.Need-done-with-requires
+done-with-requires c κs = search needs
 
 returns-2 : tie.Need-returns-2
-returns-2 c =
-    let n = c .before .before .before .before .before .before .before .before .before .before .before .before .before .before .before .before .before in
-    let a = n .before .before in
+unfolding burstFinish
+returns-2 c = λ p o f h. let r = c .before .before .before .before .before .before .before .before .before in
+    let i = c .before .before .before .before .before .before .before .before .before .before .before .before .before in
+    let a = c .before .before .before .before .before .before .before .before .before .before .before .before .before .before .before in
     let st = a .args .st in
-    let f = a .args .flags .now in
     let ws = a .args .commands .now in
-    let o = a .args .output .now in
-    λ p s.
-    rw (c .done .ensures, c .before .stand .ensures, c .before .before .after .ensures, c .before .before .before .before .before .next-phase .ensures, c .before .before .before .before .before .before .before .span-of .ensures .0, c .before .before .before .before .before .before .before .before .before .before .deliver .ensures, c .before .before .before .before .before .before .before .before .before .before .before .reads-in .ensures .0, c .before .before .before .before .before .before .before .before .before .before .before .before .before .before .stage-of .ensures, c .before .before .before .before .before .before .before .before .before .before .before .before .before .before .before .transfer-of .ensures) (finished st (tables f ws p o) s (a .args .code) (sym (n .finish-number .ensures f p s o refl) ∙ c .before .before .before .before .before .before .before .before .before .before .before .before .before .before .before .before .if1 .left))
+    let t = tables (a .args .flags .now) ws p o in
+    rw (c .done-with .ensures t, c .before .table-if .ensures t, c .before .before .none .ensures, c .before .before .before .stand .ensures, c .before .before .before .before .after .ensures, c .before .before .before .before .before .before .next-phase .ensures, c .before .before .before .before .before .before .before .before .span-of .ensures .0, r .reads-in .ensures .0, r .before .before .stage-of .ensures, r .before .before .before .transfer-of .ensures, output-if (reading (st .phase)) (readsIn (place (st .control)) ws) (transfer (st .phase) .part) t)
+    (served-as (λ v. short v ⇒ 13 ∣ burstFinish v (a .args .code)) (seen st t f) refl (sym (i .before .finish-number .ensures (a .args .flags .now) p o f h) ∙ i .if1 .left))
 
 pub finish-spec : {M : Type 1} → statement M
 finish-spec =
@@ -122,13 +106,14 @@ finish-spec =
     cast-k
     sub-reads-in
     reads-in-requires
-    deliver-requires
+    cast-place
     span-of-requires
     mul-w
     element-copy-out-w
     next-phase-requires
     after-requires
     stand-requires
-    done-requires
-    same-length
+    none-requires
+    table-if-requires
+    done-with-requires
     returns-2)

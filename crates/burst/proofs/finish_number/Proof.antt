@@ -28,10 +28,8 @@ select-requires-4 c κs = search needs
 
 returns : tie.Need-returns
 unfolding burstFinish
-returns c =
-    let a = c .before .before .before .before .before .before .before in
-    let st = a .args .st in
-    λ f p s o h. rw (c .select4 .ensures, c .before .is-lacking .ensures, c .before .before .select3 .ensures, c .before .before .before .select2 .ensures, c .before .before .before .before .select .ensures, c .before .before .before .before .before .is-allowed .ensures, c .before .before .before .before .before .before .stage-of .ensures, short-is st f (a .args .commands .now) p o s (a .args .len) (a .pre) h)
+returns c = λ a p o f h. let n = c .before .before .before .before .before .before .before in
+    rw (c .select4 .ensures, c .before .is-lacking .ensures, c .before .before .select3 .ensures, c .before .before .before .select2 .ensures, c .before .before .before .before .select .ensures, c .before .before .before .before .before .is-allowed .ensures, c .before .before .before .before .before .before .stage-of .ensures, short-is (n .args .st) a (n .args .commands .now) p o f (n .args .len) (n .pre) h)
 
 pub finish-number-spec : {M : Type 1} → statement M
 finish-number-spec =

@@ -16,10 +16,8 @@ select-requires c κs = search needs
 
 returns : tie.Need-returns
 unfolding burstReceive
-returns c =
-    let a = c .before .before .before in
-    let st = a .args .st in
-    λ f p s o byte h. rw (c .select .ensures, c .before .is-lacking .ensures, c .before .before .byte-number .ensures, short-is st f (a .args .commands .now) p o s (a .args .len) (a .pre) h)
+returns c = λ a p o f byte h. let n = c .before .before .before in
+    rw (c .select .ensures, c .before .is-lacking .ensures, c .before .before .byte-number .ensures, short-is (n .args .st) a (n .args .commands .now) p o f (n .args .len) (n .pre) h)
 
 pub receive-number-spec : {M : Type 1} → statement M
 receive-number-spec =

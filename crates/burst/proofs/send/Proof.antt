@@ -1,14 +1,15 @@
 -- `burst::send` meets its contract.
-use mathlib.Core.Path.{refl, sym, _∙_}
 use Prim.Native.Nat.{ℕ}
-use mathlib.Core.List.{List, []}
-use Rattle.model.specs.Decision.{_⇒_∣_}
-use Rattle.answer.specs.Given.{view, tables}
-use Rattle.answer.proofs.Laws.{refused-by}
-use Rattle.model.specs.Bursts.{short, burstSend}
-use Rattle.burst.proofs.Laws.{at-most-fifteen, below-four, sends, sent}
+use mathlib.Core.Path.{sym, _∙_}
+use mathlib.Core.List.{[]}
 use lib.ListN.{replicate, length-replicate}
 use borrow.Author.Tests.{leb-false}
+use Rattle.model.specs.View.{tables}
+use Rattle.model.specs.Decision.{_⇒_∣_}
+use Rattle.model.specs.Bursts.{short, burstSend}
+use Rattle.effect.specs.Seen.{seen}
+use Rattle.effect.proofs.Laws.{refused-as, noFronts}
+use Rattle.burst.proofs.Laws.{at-most-fifteen, below-four, lent, sends, sent}
 use borrow.Author.Needs.{needs}
 use Rattle.burst.proofs.send.Statement.{statement}
 use Rattle.burst.proofs.send.Tie as tie
@@ -20,24 +21,16 @@ refuse-requires : tie.Need-refuse-requires
 refuse-requires c κs = search needs
 
 returns : tie.Need-returns
-returns c =
-    let a = c .before .before .before in
-    let st = a .args .st in
-    let ws = a .args .commands .now in
+returns c = λ b o f h. let a = c .before .before .before in
     let p = a .args .payloads .now in
-    λ f s o h.
-    let t = tables f ws p o in
-    rw (c .refuse .ensures) (refused-by st t s (short (view st t s) ⇒ 13 ∣ burstSend (view st t s)) _ (c .before .if1 .taken) (c .before .before .send-number .ensures f p s o h))
+    let t = tables b (a .args .commands .now) p o in
+    c .refuse .ensures t f ∙ refused-as (λ v. short v ⇒ 13 ∣ burstSend v) (seen (a .args .st) t f) _ (c .before .if1 .taken) (c .before .before .send-number .ensures b p o f h)
 
 transfer-of-requires : tie.Need-transfer-of-requires
 transfer-of-requires c κs = search needs
 
 data-word-requires : tie.Need-data-word-requires
-data-word-requires c κs =
-    let a = c .before .before .before in
-    let st = a .args .st in
-    let ws = a .args .commands .now in
-    at-most-fifteen (st .control) (st .regs) (st .phase) ws (a .pre .0) (a .pre .1) .0
+data-word-requires c κs = let a = c .before .before .before in at-most-fifteen (a .args .st) (a .args .commands .now) (a .pre .0) (a .pre .1) .0
 
 weight-requires : tie.Need-weight-requires
 weight-requires c κs = search needs
@@ -46,28 +39,25 @@ div-byte : tie.Need-div-byte
 div-byte c = search needs
 
 advance-requires : tie.Need-advance-requires
-advance-requires c κs =
-    let n = c .before .before .before .before in
-    let a = n .before in
-    let st = a .args .st in
-    let ws = a .args .commands .now in
-    let o : List ℕ = replicate (a .args .len) 0 in
-    rw (c .before .before .transfer-of .ensures) (leb-false _ _ (sends (view st (tables [] ws [] o) []) (sym (n .send-number .ensures [] [] [] o (length-replicate {A = ℕ} (a .args .len) 0)) ∙ c .before .before .before .if1 .left)))
+advance-requires c κs = let i = c .before .before .before in
+    let a = c .before .before .before .before .before in
+    rw (c .before .before .transfer-of .ensures) (leb-false _ _ (sends (seen (a .args .st) (lent (a .args .commands .now) (a .args .len)) noFronts) (sym (i .before .send-number .ensures [] [] (replicate (a .args .len) 0) noFronts (length-replicate {A = ℕ} (a .args .len) 0)) ∙ i .if1 .left)))
+
+none-requires : tie.Need-none-requires
+none-requires c κs = search needs
 
 done-requires : tie.Need-done-requires
 done-requires c κs = search needs
 
 returns-2 : tie.Need-returns-2
-returns-2 c =
-    let n = c .before .before .before .before .before .before .before .before .before in
-    let a = n .before in
-    let st = a .args .st in
+returns-2 c = λ b o f h. let i = c .before .before .before .before .before .before .before .before in
+    let a = c .before .before .before .before .before .before .before .before .before .before in
     let ws = a .args .commands .now in
     let p = a .args .payloads .now in
-    λ f s o h.
-    let t = tables f ws p o in
-    let e = sym (n .send-number .ensures f p s o h) ∙ c .before .before .before .before .before .before .before .before .if1 .left in
-    rw (c .done .ensures, c .before .before .before .before .advance .ensures, c .before .before .before .before .before .weight .ensures .0, c .before .before .before .before .before .before .data-word .ensures, c .before .before .before .before .before .before .before .transfer-of .ensures) (sent st t s (below-four (st .control) (st .regs) (st .phase) ws (a .pre .0) (a .pre .1) (sends (view st t s) e)) e)
+    let t = tables b ws p o in
+    let s = seen (a .args .st) t f in
+    let e = sym (i .before .send-number .ensures b p o f h) ∙ i .if1 .left in
+    rw (c .done .ensures t, c .before .none .ensures, c .before .before .before .before .advance .ensures, c .before .before .before .before .before .weight .ensures .0, c .before .before .before .before .before .before .data-word .ensures, c .before .before .before .before .before .before .before .transfer-of .ensures) (sent s (below-four (a .args .st) ws (a .pre .0) (a .pre .1) (sends s e)) e)
 
 pub send-spec : {M : Type 1} → statement M
 send-spec =
@@ -81,5 +71,6 @@ send-spec =
     weight-requires
     div-byte
     advance-requires
+    none-requires
     done-requires
     returns-2)

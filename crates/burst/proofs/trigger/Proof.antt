@@ -1,9 +1,9 @@
 -- `burst::trigger` meets its contract.
-use mathlib.Core.Path.{sym, _∙_}
-use Rattle.answer.specs.Given.{view, tables}
-use Rattle.answer.proofs.Laws.{refused-by}
+use mathlib.Core.Path.{refl, sym, _∙_}
+use Rattle.model.specs.View.{tables}
 use Rattle.model.specs.Bursts.{trigger}
-use Rattle.burst.proofs.Laws.{triggered}
+use Rattle.effect.specs.Seen.{seen}
+use Rattle.effect.proofs.Laws.{refused-as, served-as}
 use borrow.Author.Needs.{needs}
 use Rattle.burst.proofs.trigger.Statement.{statement}
 use Rattle.burst.proofs.trigger.Tie as tie
@@ -15,17 +15,18 @@ refuse-requires : tie.Need-refuse-requires
 refuse-requires c κs = search needs
 
 returns : tie.Need-returns
-returns c =
-    let a = c .before .before .before in
-    let st = a .args .st in
-    let f = a .args .flags .now in
-    let ws = a .args .commands .now in
-    λ p s o h.
-    let t = tables f ws p o in
-    rw (c .refuse .ensures) (refused-by st t s (trigger (view st t s)) _ (c .before .if1 .taken) (c .before .before .trigger-number .ensures f p s o h))
+returns c = λ p o f h. let a = c .before .before .before in
+    let t = tables (a .args .flags .now) (a .args .commands .now) p o in
+    c .refuse .ensures t f ∙ refused-as trigger (seen (a .args .st) t f) _ (c .before .if1 .taken) (c .before .before .trigger-number .ensures (a .args .flags .now) p o f h)
 
 element-copy-out-w : tie.Need-element-copy-out-w
 element-copy-out-w c = search needs
+
+cast-at : tie.Need-cast-at
+cast-at c = search needs
+
+element-copy-out-private-phase : tie.Need-element-copy-out-private-phase
+element-copy-out-private-phase c = search needs
 
 private-phase-requires : tie.Need-private-phase-requires
 private-phase-requires c κs = search needs
@@ -33,19 +34,18 @@ private-phase-requires c κs = search needs
 stand-requires : tie.Need-stand-requires
 stand-requires c κs = search needs
 
+none-requires : tie.Need-none-requires
+none-requires c κs = search needs
+
 done-requires : tie.Need-done-requires
 done-requires c κs = search needs
 
 returns-2 : tie.Need-returns-2
-returns-2 c =
-    let n = c .before .before .before .before .before .before .before in
-    let a = n .before in
-    let st = a .args .st in
-    let f = a .args .flags .now in
-    let ws = a .args .commands .now in
-    λ p s o h.
-    let t = tables f ws p o in
-    rw (c .done .ensures, c .before .stand .ensures, c .before .before .before .before .private-phase .ensures) (triggered st t s (sym (n .trigger-number .ensures f p s o h) ∙ c .before .before .before .before .before .before .if1 .left))
+unfolding trigger
+returns-2 c = λ p o f h. let i = c .before .before .before .before .before .before .before in
+    let a = c .before .before .before .before .before .before .before .before .before in
+    let t = tables (a .args .flags .now) (a .args .commands .now) p o in
+    rw (c .done .ensures t, c .before .none .ensures, c .before .before .stand .ensures, c .before .before .before .before .private-phase .ensures) (served-as trigger (seen (a .args .st) t f) refl (sym (i .before .trigger-number .ensures (a .args .flags .now) p o f h) ∙ i .if1 .left))
 
 pub trigger-spec : {M : Type 1} → statement M
 trigger-spec =
@@ -55,7 +55,10 @@ trigger-spec =
     refuse-requires
     returns
     element-copy-out-w
+    cast-at
+    element-copy-out-private-phase
     private-phase-requires
     stand-requires
+    none-requires
     done-requires
     returns-2)

@@ -39,7 +39,8 @@ select-requires-6 c κs = search needs
 
 returns : tie.Need-returns
 unfolding trigger
-returns c = λ f p s o h. rw (c .select6 .ensures, c .before .select5 .ensures, c .before .before .select4 .ensures, c .before .before .before .is-offload .ensures, c .before .before .before .before .select3 .ensures, c .before .before .before .before .before .select2 .ensures, c .before .before .before .before .before .before .select .ensures, c .before .before .before .before .before .before .before .is-lacking .ensures, c .before .before .before .before .before .before .before .before .all-carried .ensures, c .before .before .before .before .before .before .before .before .before .span-of .ensures .0, c .before .before .before .before .before .before .before .before .before .before .stage-of .ensures, h)
+returns c = λ a p o f h. let l = c .before .before .before .before .before .before .before in
+    rw (c .select6 .ensures, c .before .select5 .ensures, c .before .before .select4 .ensures, c .before .before .before .is-offload .ensures, c .before .before .before .before .select3 .ensures, c .before .before .before .before .before .select2 .ensures, c .before .before .before .before .before .before .select .ensures, l .is-lacking .ensures, l .before .all-carried .ensures, l .before .before .span-of .ensures .0, l .before .before .before .stage-of .ensures, h)
 
 pub trigger-number-spec : {M : Type 1} → statement M
 trigger-number-spec =

@@ -1,44 +1,33 @@
 -- `controller::read` meets its contract.
+use Rattle.answer.specs.Given.{controller}
+use Rattle.model.proofs.Accesses.{accesses-leave-output}
+use Rattle.model.specs.Laws.{AccessesLeaveOutput}
+use Rattle.model.specs.Rings.{Controller, rings}
+use Rattle.model.specs.Engine.{Step}
 use Rattle.model.specs.declared.Call.the-variants.{Read}
-use mathlib.Core.Path.{refl, sym, _∙_}
-use Rattle.controller.proofs.Guards.{faulty, sound, opens}
-use Rattle.read.specs.At.{readAt}
+use mathlib.Core.List.{[]}
+use mathlib.Core.Path.{refl, ap, sym, _∙_}
 use borrow.Author.Needs.{needs}
 use Rattle.controller.proofs.read.Statement.{statement}
 use Rattle.controller.proofs.read.Tie as tie
 
-fault-requires : tie.Need-fault-requires
-fault-requires c κs = search needs
+slice-aggregate-step : tie.Need-slice-aggregate-step
+slice-aggregate-step c = search needs
 
-refuse-requires : tie.Need-refuse-requires
-refuse-requires c κs = search needs
+step-requires : tie.Need-step-requires
+step-requires c κs = search needs
+
+same-length : tie.Need-same-length
+same-length c = search needs
 
 returns : tie.Need-returns
+unfolding AccessesLeaveOutput
 returns c =
-    let a = c .before .before .before .before in
-    let b = a .args .b in
-    let s = a .args .store .now in
-    λ o. rw (c .refuse .ensures) (faulty b s o (Read (a .args .offset)) _ (c .before .if1 .taken) (c .before .before .fault .ensures))
-
-read-requires : tie.Need-read-requires
-read-requires c κs =
-    let a = c .before .before .before .before .before .before .before .before .before in
-    let b = a .args .b in
-    let s = a .args .store .now in
-    opens b s (sym (c .before .before .before .before .before .before .before .fault .ensures) ∙ c .before .before .before .before .before .before .if1 .left) .bank
-
-with-state-requires : tie.Need-with-state-requires
-with-state-requires c κs = search needs
-
-returns-2 : tie.Need-returns-2
-unfolding readAt
-returns-2 c =
-    let a = c .before .before .before .before .before .before .before .before .before .before .before in
-    let b = a .args .b in
-    let s = a .args .store .now in
-    λ o. rw (c .with-state .ensures) (c .before .read .ensures o ∙ sound b s o (Read (a .args .offset)) (sym (c .before .before .before .before .before .before .before .before .before .fault .ensures) ∙ c .before .before .before .before .before .before .before .before .if1 .left))
+    let y = c .before .before .before in
+    let a = y .before .before .before .before in
+    λ o.
+    ap (λ (r : Step Controller). record { answer = r .answer; next = rings .lend o (r .next) }) (y .step .ensures)
+    ∙ sym (accesses-leave-output (controller (a .args .b) (a .args .store .now) []) o (Read (a .args .offset)) refl)
 
 pub read-spec : {M : Type 1} → statement M
-read-spec =
-    tie.close
-    (tie.spec fault-requires refuse-requires returns read-requires with-state-requires returns-2)
+read-spec = tie.close (tie.spec slice-aggregate-step step-requires same-length returns)

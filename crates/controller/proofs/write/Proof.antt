@@ -1,54 +1,33 @@
 -- `controller::write` meets its contract.
+use Rattle.answer.specs.Given.{controller}
+use Rattle.model.proofs.Accesses.{accesses-leave-output}
+use Rattle.model.specs.Laws.{AccessesLeaveOutput}
+use Rattle.model.specs.Rings.{Controller, rings}
+use Rattle.model.specs.Engine.{Step}
 use Rattle.model.specs.declared.Call.the-variants.{Write}
-use mathlib.Core.Path.{refl, sym, _∙_}
-use Rattle.controller.proofs.Guards.{faulty, sound, opens}
-use Rattle.write.specs.At.{writeAt}
+use mathlib.Core.List.{[]}
+use mathlib.Core.Path.{refl, ap, sym, _∙_}
 use borrow.Author.Needs.{needs}
 use Rattle.controller.proofs.write.Statement.{statement}
 use Rattle.controller.proofs.write.Tie as tie
 
-fault-requires : tie.Need-fault-requires
-fault-requires c κs = search needs
+slice-aggregate-step : tie.Need-slice-aggregate-step
+slice-aggregate-step c = search needs
 
-refuse-requires : tie.Need-refuse-requires
-refuse-requires c κs = search needs
-
-returns : tie.Need-returns
-returns c =
-    let a = c .before .before .before .before in
-    let b = a .args .b in
-    let s = a .args .store .now in
-    λ o. rw (c .refuse .ensures) (faulty b s o (Write (a .args .offset) (a .args .v)) _ (c .before .if1 .taken) (c .before .before .fault .ensures))
-
-write-requires : tie.Need-write-requires
-write-requires c κs =
-    let a = c .before .before .before .before .before .before .before .before .before .before in
-    let b = a .args .b in
-    let s = a .args .store .now in
-    opens b s (sym (c .before .before .before .before .before .before .before .before .fault .ensures) ∙ c .before .before .before .before .before .before .before .if1 .left) .bank
-
-with-tables-requires : tie.Need-with-tables-requires
-with-tables-requires c κs = search needs
+step-requires : tie.Need-step-requires
+step-requires c κs = search needs
 
 same-length : tie.Need-same-length
 same-length c = search needs
 
-returns-2 : tie.Need-returns-2
-unfolding writeAt
-returns-2 c =
-    let a = c .before .before .before .before .before .before .before .before .before .before .before .before .before .before in
-    let b = a .args .b in
-    let s = a .args .store .now in
-    λ o. rw (c .with-tables .ensures) (c .before .before .before .write .ensures o ∙ sound b s o (Write (a .args .offset) (a .args .v)) (sym (c .before .before .before .before .before .before .before .before .before .before .before .before .fault .ensures) ∙ c .before .before .before .before .before .before .before .before .before .before .before .if1 .left))
+returns : tie.Need-returns
+unfolding AccessesLeaveOutput
+returns c =
+    let y = c .before .before .before in
+    let a = y .before .before .before .before in
+    λ o.
+    ap (λ (r : Step Controller). record { answer = r .answer; next = rings .lend o (r .next) }) (y .step .ensures)
+    ∙ sym (accesses-leave-output (controller (a .args .b) (a .args .store .now) []) o (Write (a .args .offset) (a .args .v)) refl)
 
 pub write-spec : {M : Type 1} → statement M
-write-spec =
-    tie.close
-    (tie.spec
-    fault-requires
-    refuse-requires
-    returns
-    write-requires
-    with-tables-requires
-    same-length
-    returns-2)
+write-spec = tie.close (tie.spec slice-aggregate-step step-requires same-length returns)

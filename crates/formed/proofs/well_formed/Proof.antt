@@ -10,6 +10,9 @@ queues-ok-requires c κs = search needs
 regs-ok-requires : tie.Need-regs-ok-requires
 regs-ok-requires c κs = search needs
 
+marks-ok-requires : tie.Need-marks-ok-requires
+marks-ok-requires c κs = search needs
+
 open-ok-requires : tie.Need-open-ok-requires
 open-ok-requires c κs = search needs
 
@@ -21,7 +24,11 @@ flags-ok-requires c κs = search needs
 
 returns : tie.Need-returns
 unfolding wellFormed
-returns c = rw (c .flags-ok .ensures, c .before .reset-ok .ensures, c .before .before .open-ok .ensures, c .before .before .before .before .regs-ok .ensures, c .before .before .before .before .before .queues-ok .ensures)
+returns c =
+    let o = c .before .before in
+    let m = o .before .before in
+    let a = m .before .before .before .before .before .before in
+    rw (c .flags-ok .ensures, c .before .reset-ok .ensures (a .args .b .state .caps), o .open-ok .ensures, m .marks-ok .ensures, m .before .regs-ok .ensures, m .before .before .queues-ok .ensures)
 
 pub well-formed-spec : {M : Type 1} → statement M
 well-formed-spec =
@@ -29,6 +36,7 @@ well-formed-spec =
     (tie.spec
     queues-ok-requires
     regs-ok-requires
+    marks-ok-requires
     open-ok-requires
     reset-ok-requires
     flags-ok-requires

@@ -7,7 +7,7 @@ size-ok-requires : tie.Need-size-ok-requires
 size-ok-requires c κs = search needs
 
 returns : tie.Need-returns
-returns c = cc
+returns c = rw (c .before .before .before .size-ok .ensures)
 
 pub ring-ok-spec : {M : Type 1} → statement M
 ring-ok-spec = tie.close (tie.spec size-ok-requires returns)

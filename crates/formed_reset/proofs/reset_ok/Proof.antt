@@ -15,7 +15,7 @@ stage-of-requires c κs = search needs
 
 returns : tie.Need-returns
 unfolding resetOk
-returns c = cc
+returns c = λ k. rw (c .stage-of .ensures, c .before .control-clear .ensures, c .before .before .queues-clear .ensures k)
 
 pub reset-ok-spec : {M : Type 1} → statement M
 reset-ok-spec =

@@ -20,7 +20,7 @@ unfolding bankIn
 returns c =
     let p = c .before .before .before .before in
     let ws = p .args .image .now in
-    ap₂ _&&_ (c .before .same-state .ensures) (c .same-flags .ensures) ∙ ap (λ (b : Bank). same (stateWords (b .state)) (take 40 ws) && same (b .flags) (part 40 128 ws)) (p .pre .1) ∙ encoded-parts ws (p .pre .0)
+    ap₂ _&&_ (c .before .same-state .ensures) (c .same-flags .ensures) ∙ ap (λ (b : Bank). same (stateWords (b .state) (b .heads)) (take 40 ws) && same (b .flags) (part 40 128 ws)) (p .pre .1) ∙ encoded-parts ws (p .pre .0)
 
 pub is-encoded-spec : {M : Type 1} → statement M
 is-encoded-spec = tie.close (tie.spec same-state-requires same-flags-requires returns)

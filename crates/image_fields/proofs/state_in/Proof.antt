@@ -3,8 +3,11 @@ use borrow.Author.Needs.{needs}
 use Rattle.image_fields.proofs.state_in.Statement.{statement}
 use Rattle.image_fields.proofs.state_in.Tie as tie
 
-queues-in-requires : tie.Need-queues-in-requires
-queues-in-requires c κs = search needs
+counts-in-requires : tie.Need-counts-in-requires
+counts-in-requires c κs = search needs
+
+counts-in-requires-2 : tie.Need-counts-in-requires-2
+counts-in-requires-2 c κs = search needs
 
 regs-in-requires : tie.Need-regs-in-requires
 regs-in-requires c κs = search needs
@@ -28,7 +31,8 @@ pub state-in-spec : {M : Type 1} → statement M
 state-in-spec =
     tie.close
     (tie.spec
-    queues-in-requires
+    counts-in-requires
+    counts-in-requires-2
     regs-in-requires
     control-in-requires
     transfer-in-requires

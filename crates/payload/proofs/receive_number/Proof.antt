@@ -15,7 +15,7 @@ byte-number-requires c κs = search needs
 
 returns : tie.Need-returns
 unfolding receive
-returns c = λ t s byte. rw (c .byte-number .ensures, c .before .select .ensures, c .before .before .before .before .transfer-of .ensures)
+returns c = λ t f byte. rw (c .byte-number .ensures, c .before .select .ensures, c .before .before .before .before .transfer-of .ensures)
 
 pub receive-number-spec : {M : Type 1} → statement M
 receive-number-spec =

@@ -15,7 +15,7 @@ byte-number-requires c κs = search needs
 
 returns : tie.Need-returns
 unfolding send
-returns c = λ t s. rw (c .byte-number .ensures, c .before .select .ensures, c .before .before .before .before .transfer-of .ensures)
+returns c = λ t f. rw (c .byte-number .ensures, c .before .select .ensures, c .before .before .before .before .transfer-of .ensures)
 
 pub send-number-spec : {M : Type 1} → statement M
 send-number-spec =

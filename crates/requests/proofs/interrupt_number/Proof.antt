@@ -24,7 +24,7 @@ select-requires-5 c κs = search needs
 
 returns : tie.Need-returns
 unfolding interrupt
-returns c = λ t s address byte f. rw (c .select5 .ensures, c .before .select4 .ensures, c .before .before .select3 .ensures, c .before .before .before .select2 .ensures, c .before .before .before .before .select .ensures, c .before .before .before .before .before .before .stage-of .ensures, f)
+returns c = λ t x address byte f. rw (c .select5 .ensures, c .before .select4 .ensures, c .before .before .select3 .ensures, c .before .before .before .select2 .ensures, c .before .before .before .before .select .ensures, c .before .before .before .before .before .before .stage-of .ensures, f)
 
 pub interrupt-number-spec : {M : Type 1} → statement M
 interrupt-number-spec =

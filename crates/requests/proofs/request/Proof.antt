@@ -1,68 +1,47 @@
 -- `requests::request` meets its contract.
-use Rattle.requests.proofs.Addresses.{sdi-room, requests}
+use Rattle.model.specs.View.{View}
 use Rattle.model.specs.Calls.{request}
-use Rattle.answer.proofs.Laws.{noTables, ready-of, refused-by}
-use Rattle.answer.specs.Given.{view}
-use mathlib.Core.List.{[]}
-use mathlib.Core.Path.{sym, _∙_}
+use mathlib.Core.Path.{refl, sym, _∙_}
+use Rattle.effect.specs.Seen.{seen}
+use Rattle.effect.proofs.Laws.{refused-as, served-as}
 use borrow.Author.Needs.{needs}
 use Rattle.requests.proofs.request.Statement.{statement}
 use Rattle.requests.proofs.request.Tie as tie
 
 request-number-requires : tie.Need-request-number-requires
-request-number-requires c κs =
-    let a = c .before in
-    ready-of (a .args .st) (a .args .store .now) (a .pre) .sdi
+request-number-requires c κs = search needs
 
 refuse-requires : tie.Need-refuse-requires
 refuse-requires c κs = search needs
 
 returns : tie.Need-returns
 returns c =
-    let a = c .before .before .before .before in
-    let st = a .args .st in
-    let s = a .args .store .now in
-    let v = a .args .v in
-    let w = a .args .w in
-    λ t. rw (c .refuse .ensures) (refused-by st t s (request (view st t s) v w) _ (c .before .if1 .taken) (c .before .before .request-number .ensures t s v w))
+    let n = c .before .before in
+    let a = n .before .args in
+    λ t f. c .refuse .ensures t f ∙ refused-as (λ (v : View). request v (a .x) (a .w)) (seen (a .st) t f) _ (c .before .if1 .taken) (n .request-number .ensures t f (a .x) (a .w))
 
 transfer-of-requires : tie.Need-transfer-of-requires
 transfer-of-requires c κs = search needs
 
-sdi-at-requires : tie.Need-sdi-at-requires
-sdi-at-requires c κs = search needs
-
-push-two-requires : tie.Need-push-two-requires
-push-two-requires c κs =
-    let n = c .before .before .before .before in
-    let a = n .before .before .before in
-    let st = a .args .st in
-    let s = a .args .store .now in
-    let v = a .args .v in
-    let w = a .args .w in
-    let t = noTables in
-    (ready-of st s (a .pre) .sdi, sdi-room (view st t s) v w (sym (n .before .request-number .ensures t s v w) ∙ n .if1 .left), search needs)
-
 ask-requires : tie.Need-ask-requires
 ask-requires c κs = search needs
+
+on-sdi-requires : tie.Need-on-sdi-requires
+on-sdi-requires c κs = search needs
 
 done-requires : tie.Need-done-requires
 done-requires c κs = search needs
 
-same-length : tie.Need-same-length
-same-length c = search needs
-
 returns-2 : tie.Need-returns-2
+unfolding request
 returns-2 c =
-    let p = c .before .before .before .before .before .before in
-    let b = p .before .before .before in
-    let n = b .before .before in
-    let a = n .before .before .before in
-    let st = a .args .st in
-    let s = a .args .store .now in
-    let v = a .args .v in
-    let w = a .args .w in
-    λ t. rw (c .done .ensures, c .before .ask .ensures, p .push-two .ensures .0, p .push-two .ensures .1, b .sdi-at .ensures, b .before .transfer-of .ensures) (requests st t s v w (sym (n .before .request-number .ensures t s v w) ∙ n .if1 .left))
+    let k = c .before .before in
+    let t0 = k .before .before .before in
+    let n = t0 .before .before in
+    let a = n .before .args in
+    λ t f.
+    let s = seen (a .st) t f in
+    c .done .ensures t ∙ rw (c .before .on-sdi .ensures, k .ask .ensures, t0 .transfer-of .ensures) (served-as (λ (v : View). request v (a .x) (a .w)) s refl (sym (n .request-number .ensures t f (a .x) (a .w)) ∙ t0 .before .if1 .left))
 
 pub request-spec : {M : Type 1} → statement M
 request-spec =
@@ -72,9 +51,7 @@ request-spec =
     refuse-requires
     returns
     transfer-of-requires
-    sdi-at-requires
-    push-two-requires
     ask-requires
+    on-sdi-requires
     done-requires
-    same-length
     returns-2)

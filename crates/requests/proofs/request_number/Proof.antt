@@ -7,8 +7,8 @@ use Rattle.requests.proofs.request_number.Tie as tie
 stage-of-requires : tie.Need-stage-of-requires
 stage-of-requires c κs = search needs
 
-sub-room : tie.Need-sub-room
-sub-room c = search needs
+room-requires : tie.Need-room-requires
+room-requires c κs = search needs
 
 select-requires : tie.Need-select-requires
 select-requires c κs = search needs
@@ -24,14 +24,14 @@ select-requires-4 c κs = search needs
 
 returns : tie.Need-returns
 unfolding request
-returns c = λ t s v w. rw (c .select4 .ensures, c .before .select3 .ensures, c .before .before .select2 .ensures, c .before .before .before .select .ensures, c .before .before .before .before .before .stage-of .ensures)
+returns c = λ t f v w. let b = c .before .before in rw (c .select4 .ensures, c .before .select3 .ensures, b .select2 .ensures, b .before .select .ensures, b .before .before .room .ensures, b .before .before .before .stage-of .ensures)
 
 pub request-number-spec : {M : Type 1} → statement M
 request-number-spec =
     tie.close
     (tie.spec
     stage-of-requires
-    sub-room
+    room-requires
     select-requires
     select-requires-2
     select-requires-3

@@ -1,10 +1,8 @@
 -- `requests::take_address` meets its contract.
-use Rattle.requests.proofs.Addresses.{sdo-waits, takes}
 use Rattle.model.specs.Calls.{takeAddress}
-use Rattle.answer.proofs.Laws.{noTables, ready-of, refused-by}
-use Rattle.answer.specs.Given.{view}
-use mathlib.Core.List.{[]}
-use mathlib.Core.Path.{sym, _∙_}
+use mathlib.Core.Path.{refl, sym, _∙_}
+use Rattle.effect.specs.Seen.{seen}
+use Rattle.effect.proofs.Laws.{refused-as, served-as}
 use borrow.Author.Needs.{needs}
 use Rattle.requests.proofs.take_address.Statement.{statement}
 use Rattle.requests.proofs.take_address.Tie as tie
@@ -17,15 +15,9 @@ refuse-requires c κs = search needs
 
 returns : tie.Need-returns
 returns c =
-    let a = c .before .before .before .before in
-    let st = a .args .st in
-    let s = a .args .store .now in
-    λ t. rw (c .refuse .ensures) (refused-by st t s (takeAddress (view st t s)) _ (c .before .if1 .taken) (c .before .before .take-number .ensures t s))
-
-sdo-first-requires : tie.Need-sdo-first-requires
-sdo-first-requires c κs =
-    let a = c .before .before .before in
-    ready-of (a .args .st) (a .args .store .now) (a .pre)
+    let n = c .before .before in
+    let a = n .before .args in
+    λ t f w. c .refuse .ensures t f ∙ refused-as takeAddress (seen (a .st) t f) _ (c .before .if1 .taken) (n .take-number .ensures t f)
 
 is-odd-requires : tie.Need-is-odd-requires
 is-odd-requires c κs = search needs
@@ -36,34 +28,29 @@ transfer-of-requires c κs = search needs
 replied-requires : tie.Need-replied-requires
 replied-requires c κs = search needs
 
-take-requires : tie.Need-take-requires
-take-requires c κs =
-    let n = c .before .before .before .before .before in
-    let a = n .before .before .before in
-    let st = a .args .st in
-    let s = a .args .store .now in
-    let t = noTables in
-    (ready-of st s (a .pre) .sdo, sdo-waits (view st t s) (sym (n .before .take-number .ensures t s) ∙ n .if1 .left))
-
 ask-requires : tie.Need-ask-requires
 ask-requires c κs = search needs
 
 select-requires : tie.Need-select-requires
 select-requires c κs = search needs
 
+on-sdo-requires : tie.Need-on-sdo-requires
+on-sdo-requires c κs = search needs
+
 done-requires : tie.Need-done-requires
 done-requires c κs = search needs
 
 returns-2 : tie.Need-returns-2
+unfolding takeAddress
 returns-2 c =
-    let k = c .before .before .before .before .before in
-    let r = k .before .before in
+    let k = c .before .before in
+    let r = k .before .before .before .before in
     let o = r .before .before in
     let n = o .before .before in
-    let a = n .before .before .before in
-    let st = a .args .st in
-    let s = a .args .store .now in
-    λ t. rw (c .done .ensures, c .before .select .ensures, c .before .before .ask .ensures, k .take .ensures, r .replied .ensures, r .before .transfer-of .ensures, o .is-odd .ensures, o .before .sdo-first .ensures) (takes st t s (sym (n .before .take-number .ensures t s) ∙ n .if1 .left))
+    let a = n .before .args in
+    λ t f w.
+    let s = seen (a .st) t f in
+    c .done .ensures t ∙ rw (c .before .on-sdo .ensures, k .select .ensures, k .before .ask .ensures, r .replied .ensures, r .before .transfer-of .ensures, o .is-odd .ensures, w) (served-as takeAddress s refl (sym (n .take-number .ensures t f) ∙ o .before .if1 .left))
 
 pub take-address-spec : {M : Type 1} → statement M
 take-address-spec =
@@ -72,12 +59,11 @@ take-address-spec =
     take-number-requires
     refuse-requires
     returns
-    sdo-first-requires
     is-odd-requires
     transfer-of-requires
     replied-requires
-    take-requires
     ask-requires
     select-requires
+    on-sdo-requires
     done-requires
     returns-2)

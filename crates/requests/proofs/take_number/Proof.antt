@@ -21,7 +21,7 @@ select-requires-4 c κs = search needs
 
 returns : tie.Need-returns
 unfolding takeAddress
-returns c = λ t s. rw (c .select4 .ensures, c .before .select3 .ensures, c .before .before .select2 .ensures, c .before .before .before .select .ensures, c .before .before .before .before .before .stage-of .ensures)
+returns c = λ t f. rw (c .select4 .ensures, c .before .select3 .ensures, c .before .before .select2 .ensures, c .before .before .before .select .ensures, c .before .before .before .before .before .stage-of .ensures)
 
 pub take-number-spec : {M : Type 1} → statement M
 take-number-spec =

@@ -4,8 +4,8 @@ use Prim.Native.Nat.{ℕ}
 use native.Mathlib.Omega.{arith}
 use mathlib.Core.Path.{ap, _∙_}
 use mathlib.Core.List.{List}
-use Rattle.answer.specs.Given.{tables}
 use Rattle.record_model.proofs.Kept.{empty}
+use Rattle.model.specs.View.{tables}
 use Rattle.stream_lines.specs.Given.{shownParts}
 use Rattle.stream_lines.proofs.show.Statement.{statement}
 use Rattle.stream_lines.proofs.show.Tie as tie
@@ -31,7 +31,7 @@ same-length-2 c = search needs
 returns : tie.Need-returns
 returns c =
     let y = c .before .before .before .before .before .before .show-parts in
-    let z = y .last in
+    let z = y .last .1 in
     let f = c .shown-of .ensures in
     (f .0 _ _ ∙ ap (λ (o : List ℕ). shownParts (y .result) (tables (z .1 .0) (z .1 .1 .0) (z .1 .1 .1 .0) o) (z .1 .1 .1 .1 .0) (z .1 .1 .1 .1 .1 .1 .1 .1 .1 .0)) (empty (z .1 .1 .1 .1 .1 .0) (c .before .before .before .none2 .given)) ∙ y .ensures .0, omega (arith, f .1, y .ensures .1))
 

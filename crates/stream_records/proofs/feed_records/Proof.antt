@@ -1,8 +1,8 @@
 -- `stream_records::feed_records` meets its contract.
 use borrow.Author.Needs.{needs}
-use Prim.Native.Nat.{ℕ, _+_, _*_, _≤_, _<_}
+use Prim.Native.Nat.{_+_, _*_, _≤_, _<_}
 use native.Mathlib.Omega.{arith}
-use mathlib.Core.Path.{_≡_, ap, _∙_}
+use mathlib.Core.Path.{_≡_, _∙_}
 use mathlib.Core.List.{[]}
 use lib.ListN.{length}
 use Rattle.answer.specs.Given.{controller}
@@ -34,7 +34,7 @@ returns c =
     let p = c .before .before .before .before .before .before .before .before .before .before .show in
     let y = c .before .before .close in
     let kept : length (y .last .1 .1 .1 .0) ≡ length (p .last .1 .1 .1 .1 .0) = search needs in
-    let shown : length (p .last .1 .1 .1 .1 .0) ≡ length (a .out .now) = search needs in (
+    let shown : length (p .last .1 .1 .1 .1 .0) ≡ length (a .out .now) = search (needs, c .before .before .before .before .before .before .before .out .given) in (
       y .ensures .0 (p .last .1 .0) ∙ wrong-met (controller (a .b) (a .store .now) []) (a .due) (a .bytes .now) (n .result) _ (n .ensures .0) (p .ensures .0) (c .before .before .before .before .if1 .taken),
       omega (arith, room, kept, shown, y .ensures .1, p .ensures .1, n .ensures .1),
       omega (arith, y .ensures .2),
@@ -65,7 +65,7 @@ returns-2 c =
     let p = c .before .before .before .before .before .before .before .before .before .before .before .show in
     let y = c .before .before .close2 in
     let kept : length (y .last .1 .1 .1 .0) ≡ length (p .last .1 .1 .1 .1 .0) = search needs in
-    let shown : length (p .last .1 .1 .1 .1 .0) ≡ length (a .out .now) = search needs in (
+    let shown : length (p .last .1 .1 .1 .1 .0) ≡ length (a .out .now) = search (needs, c .before .before .before .before .before .before .before .before .out .given) in (
       y .ensures .0 (p .last .1 .0) ∙ too-long (controller (a .b) (a .store .now) []) (a .due) (a .bytes .now) (n .result) _ (n .ensures .0) (p .ensures .0) (c .before .before .before .before .before .if1 .left) (c .before .before .before .before .if2 .taken),
       omega (arith, room, kept, shown, y .ensures .1, p .ensures .1, n .ensures .1),
       omega (arith, y .ensures .2),

@@ -27,7 +27,8 @@ select-requires-4 c κs = search needs
 
 returns : tie.Need-returns
 unfolding finish
-returns c = λ t s. rw (c .select4 .ensures, c .before .select3 .ensures, c .before .before .select2 .ensures, c .before .before .before .select .ensures, c .before .before .before .before .before .before .before .before .is-padded .ensures, c .before .before .before .before .before .before .before .before .before .is-allowed .ensures, c .before .before .before .before .before .before .before .before .before .before .stage-of .ensures)
+returns c = λ t f. let a = c .before .before .before .before .before .before .before .before .before .before in
+    rw (c .select4 .ensures, c .before .select3 .ensures, c .before .before .select2 .ensures, c .before .before .before .select .ensures, a .is-padded .ensures, a .before .is-allowed .ensures, a .before .before .stage-of .ensures)
 
 pub finish-number-spec : {M : Type 1} → statement M
 finish-number-spec =

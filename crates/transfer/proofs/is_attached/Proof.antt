@@ -3,12 +3,6 @@ use borrow.Author.Needs.{needs}
 use Rattle.transfer.proofs.is_attached.Statement.{statement}
 use Rattle.transfer.proofs.is_attached.Tie as tie
 
-cast-at : tie.Need-cast-at
-cast-at c = search needs
-
-element-copy-out-f : tie.Need-element-copy-out-f
-element-copy-out-f c = search needs
-
 is-broadcast-requires : tie.Need-is-broadcast-requires
 is-broadcast-requires c κs = search needs
 
@@ -16,4 +10,4 @@ returns : tie.Need-returns
 returns c = rw (c .is-broadcast .ensures)
 
 pub is-attached-spec : {M : Type 1} → statement M
-is-attached-spec = tie.close (tie.spec cast-at element-copy-out-f is-broadcast-requires returns)
+is-attached-spec = tie.close (tie.spec is-broadcast-requires returns)

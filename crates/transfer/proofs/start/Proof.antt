@@ -1,18 +1,12 @@
 -- `transfer::start` meets its contract.
 use mathlib.Core.Path.{sym, _∙_}
 use Rattle.model.specs.Calls.{start}
-use Rattle.answer.proofs.Laws.{noTables, ready-of, refused-by}
-use Rattle.answer.specs.Given.{tables, view}
-use Rattle.transfer.proofs.Starting.{starts, started}
+use Rattle.effect.specs.Seen.{seen}
+use Rattle.effect.proofs.Laws.{refused-as}
+use Rattle.transfer.proofs.Starting.{started}
 use borrow.Author.Needs.{needs}
 use Rattle.transfer.proofs.start.Statement.{statement}
 use Rattle.transfer.proofs.start.Tie as tie
-
-cmd-word-requires : tie.Need-cmd-word-requires
-cmd-word-requires c κs = let a = c .before in ready-of (a .args .st) (a .args .store .now) (a .pre)
-
-cmd-word-requires-2 : tie.Need-cmd-word-requires-2
-cmd-word-requires-2 c κs = let a = c .before .before in ready-of (a .args .st) (a .args .store .now) (a .pre)
 
 start-number-requires : tie.Need-start-number-requires
 start-number-requires c κs = search needs
@@ -21,10 +15,7 @@ refuse-requires : tie.Need-refuse-requires
 refuse-requires c κs = search needs
 
 returns : tie.Need-returns
-returns c = let a = c .before .before .before .before .before .before in
-    let st = a .args .st in
-    let s = a .args .store .now in
-    λ c′ p o. let t = tables (a .args .flags .now) c′ p o in rw (c .refuse .ensures) (refused-by st t s (start (view st t s)) _ (c .before .if1 .taken) (c .before .before .start-number .ensures t s (c .before .before .before .before .cmd-word .ensures) (c .before .before .before .cmd-word2 .ensures)))
+returns c = λ t f h i j. c .refuse .ensures t f ∙ refused-as start (seen (c .before .before .before .args .st) t f) _ (c .before .if1 .taken) (c .before .before .start-number .ensures t f h i)
 
 kind-of-requires : tie.Need-kind-of-requires
 kind-of-requires c κs = search needs
@@ -38,27 +29,21 @@ begun-by-requires c κs = search needs
 select-requires : tie.Need-select-requires
 select-requires c κs = search needs
 
-take-requires : tie.Need-take-requires
-take-requires c κs = let a = c .before .before .before .before .before .before .before .before .before .before in
-    let st = a .args .st in
-    let s = a .args .store .now in
-    (ready-of st s (a .pre) .cmd, rw (c .select .ensures, c .before .before .before .before .before .before .before .before .cmd-word .ensures) (starts (view st noTables s) (sym (c .before .before .before .before .before .before .start-number .ensures noTables s (c .before .before .before .before .before .before .before .before .cmd-word .ensures) (c .before .before .before .before .before .before .before .cmd-word2 .ensures)) ∙ c .before .before .before .before .before .if1 .left)))
+on-cmd-requires : tie.Need-on-cmd-requires
+on-cmd-requires c κs = search needs
 
 done-requires : tie.Need-done-requires
 done-requires c κs = search needs
 
 returns-2 : tie.Need-returns-2
-returns-2 c = let a = c .before .before .before .before .before .before .before .before .before .before .before .before .before .before in
-    let st = a .args .st in
-    let s = a .args .store .now in
-    λ c′ p o. let t = tables (a .args .flags .now) c′ p o in rw (c .done .ensures, c .before .before .before .take .ensures, c .before .before .before .before .select .ensures, c .before .before .before .before .before .before .begun-by .ensures, c .before .before .before .before .before .before .before .is-attached .ensures, c .before .before .before .before .before .before .before .before .kind-of .ensures, c .before .before .before .before .before .before .before .before .before .before .before .cmd-word2 .ensures, c .before .before .before .before .before .before .before .before .before .before .before .before .cmd-word .ensures) (started st t s (sym (c .before .before .before .before .before .before .before .before .before .before .start-number .ensures t s (c .before .before .before .before .before .before .before .before .before .before .before .before .cmd-word .ensures) (c .before .before .before .before .before .before .before .before .before .before .before .cmd-word2 .ensures)) ∙ c .before .before .before .before .before .before .before .before .before .if1 .left))
+returns-2 c = λ t f h i j. let a = c .before .before .before .before .before in
+    let k = c .before .before .before .before .before .before .before .before in
+    rw (c .done .ensures t, c .before .on-cmd .ensures, c .before .before .select .ensures, a .begun-by .ensures, a .before .is-attached .ensures, a .before .before .kind-of .ensures, j, h, i) (started (seen (k .before .before .args .st) t f) (sym (k .before .start-number .ensures t f h i) ∙ k .if1 .left))
 
 pub start-spec : {M : Type 1} → statement M
 start-spec =
     tie.close
     (tie.spec
-    cmd-word-requires
-    cmd-word-requires-2
     start-number-requires
     refuse-requires
     returns
@@ -66,6 +51,6 @@ start-spec =
     is-attached-requires
     begun-by-requires
     select-requires
-    take-requires
+    on-cmd-requires
     done-requires
     returns-2)

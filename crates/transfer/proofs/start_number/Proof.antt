@@ -33,7 +33,8 @@ select-requires-5 c κs = search needs
 
 returns : tie.Need-returns
 unfolding start
-returns c = λ t s f g. rw (c .select5 .ensures, c .before .select4 .ensures, c .before .before .select3 .ensures, c .before .before .before .before .select2 .ensures, c .before .before .before .before .before .select .ensures, c .before .before .before .before .before .before .before .is-entdaa .ensures, c .before .before .before .before .before .before .before .before .choose2 .ensures, c .before .before .before .before .before .before .before .before .before .choose .ensures, c .before .before .before .before .before .before .before .before .before .before .stage-of .ensures, f, g)
+returns c = λ t f h i. let a = c .before .before .before .before .before .before .before in
+    rw (c .select5 .ensures, c .before .select4 .ensures, c .before .before .select3 .ensures, c .before .before .before .before .select2 .ensures, c .before .before .before .before .before .select .ensures, a .is-entdaa .ensures, a .before .choose2 .ensures, a .before .before .choose .ensures, a .before .before .before .stage-of .ensures, h, i)
 
 pub start-number-spec : {M : Type 1} → statement M
 start-number-spec =

@@ -1,15 +1,13 @@
 -- `write::write` meets its contract.
-use Rattle.answer.proofs.Laws.{ready-of}
-use Rattle.registers.specs.declared.Register.the-variants.{Version, Id, IrqSource, CmdRoom, CmdrLevel, SdoRoom, SdiLevel, IbiLevel, CmdrFifo, SdiFifo, IbiFifo, FifoStatus, Unmapped}
-use Rattle.write.proofs.Rows.{refused-row, stands}
 use native.Mathlib.Omega.{arith}
-use mathlib.Core.Path.{refl}
+use mathlib.Core.Path.{refl, _∙_}
 use borrow.Author.Needs.{needs}
+use Rattle.registers.specs.declared.Register.the-variants.{Version, Id, IrqSource, CmdRoom, CmdrLevel, SdoRoom, SdiLevel, IbiLevel, CmdrFifo, SdiFifo, IbiFifo, FifoStatus, Unmapped}
+use Rattle.model.specs.Registers.{row, write}
+use Rattle.effect.proofs.Laws.{refused-as}
+use Rattle.write.proofs.Rows.{read-only-row}
 use Rattle.write.proofs.write.Statement.{statement}
 use Rattle.write.proofs.write.Tie as tie
-
-register-at-requires : tie.Need-register-at-requires
-register-at-requires c κs = search needs
 
 enum-told : tie.Need-enum-told
 enum-told c = search needs
@@ -87,9 +85,7 @@ enum-told-13 : tie.Need-enum-told-13
 enum-told-13 c = search needs
 
 write-cmd-requires : tie.Need-write-cmd-requires
-write-cmd-requires c κs =
-    let a = c .before .before .before .before .before .args in
-    ready-of (a .st) (a .store .now) (c .before .before .before .before .before .pre)
+write-cmd-requires c κs = search needs
 
 enum-told-14 : tie.Need-enum-told-14
 enum-told-14 c = search needs
@@ -101,9 +97,7 @@ enum-told-15 : tie.Need-enum-told-15
 enum-told-15 c = search needs
 
 write-sdo-requires : tie.Need-write-sdo-requires
-write-sdo-requires c κs =
-    let a = c .before .before .before .before .before .args in
-    ready-of (a .st) (a .store .now) (c .before .before .before .before .before .pre)
+write-sdo-requires c κs = search needs
 
 enum-told-16 : tie.Need-enum-told-16
 enum-told-16 c = search needs
@@ -160,88 +154,81 @@ refuse-requires-13 : tie.Need-refuse-requires-13
 refuse-requires-13 c κs = search needs
 
 returns : tie.Need-returns
-returns c = λ o. stands _ _ _ _ (c .before .before .before .register-at .ensures) (c .before .enum-told .given .1) (refused-row _ _ _ Version _ 2 (c .refuse .ensures) (λ z. omega arith) refl)
+returns c = λ t f. rw (c .before .enum-told .given .1) (c .refuse .ensures t f ∙ read-only-row Version _ (c .before .before .before .args .x) refl)
 
 returns-2 : tie.Need-returns-2
-returns-2 c = λ o. stands _ _ _ _ (c .before .before .before .register-at .ensures) (c .before .enum-told2 .given .1) (refused-row _ _ _ Id _ 2 (c .refuse2 .ensures) (λ z. omega arith) refl)
+returns-2 c = λ t f. rw (c .before .enum-told2 .given .1) (c .refuse2 .ensures t f ∙ read-only-row Id _ (c .before .before .before .args .x) refl)
 
 returns-3 : tie.Need-returns-3
-returns-3 c = λ o. stands _ _ _ _ (c .before .before .before .register-at .ensures) (c .before .enum-told3 .given .1) (c .write-scratch .ensures _ _)
+returns-3 c = λ t f. rw (c .before .enum-told3 .given .1) (c .write-scratch .ensures t f)
 
 returns-4 : tie.Need-returns-4
-returns-4 c = λ o. stands _ _ _ _ (c .before .before .before .register-at .ensures) (c .before .enum-told4 .given .1) (c .write-enable .ensures _ _)
+returns-4 c = λ t f. rw (c .before .enum-told4 .given .1) (c .write-enable .ensures t f)
 
 returns-5 : tie.Need-returns-5
-returns-5 c = λ o. stands _ _ _ _ (c .before .before .before .register-at .ensures) (c .before .enum-told5 .given .1) (c .write-mask .ensures _ _)
+returns-5 c = λ t f. rw (c .before .enum-told5 .given .1) (c .write-mask .ensures t f)
 
 returns-6 : tie.Need-returns-6
-returns-6 c = λ o. stands _ _ _ _ (c .before .before .before .register-at .ensures) (c .before .enum-told6 .given .1) (c .write-pending .ensures _ _)
+returns-6 c = λ t f. rw (c .before .enum-told6 .given .1) (c .write-pending .ensures t f)
 
 returns-7 : tie.Need-returns-7
-returns-7 c = λ o. stands _ _ _ _ (c .before .before .before .register-at .ensures) (c .before .enum-told7 .given .1) (refused-row _ _ _ IrqSource _ 2 (c .refuse3 .ensures) (λ z. omega arith) refl)
+returns-7 c = λ t f. rw (c .before .enum-told7 .given .1) (c .refuse3 .ensures t f ∙ read-only-row IrqSource _ (c .before .before .before .args .x) refl)
 
 returns-8 : tie.Need-returns-8
-returns-8 c = λ o. stands _ _ _ _ (c .before .before .before .register-at .ensures) (c .before .enum-told8 .given .1) (refused-row _ _ _ CmdRoom _ 2 (c .refuse4 .ensures) (λ z. omega arith) refl)
+returns-8 c = λ t f. rw (c .before .enum-told8 .given .1) (c .refuse4 .ensures t f ∙ read-only-row CmdRoom _ (c .before .before .before .args .x) refl)
 
 returns-9 : tie.Need-returns-9
-returns-9 c = λ o. stands _ _ _ _ (c .before .before .before .register-at .ensures) (c .before .enum-told9 .given .1) (refused-row _ _ _ CmdrLevel _ 2 (c .refuse5 .ensures) (λ z. omega arith) refl)
+returns-9 c = λ t f. rw (c .before .enum-told9 .given .1) (c .refuse5 .ensures t f ∙ read-only-row CmdrLevel _ (c .before .before .before .args .x) refl)
 
 returns-10 : tie.Need-returns-10
-returns-10 c = λ o. stands _ _ _ _ (c .before .before .before .register-at .ensures) (c .before .enum-told10 .given .1) (refused-row _ _ _ SdoRoom _ 2 (c .refuse6 .ensures) (λ z. omega arith) refl)
+returns-10 c = λ t f. rw (c .before .enum-told10 .given .1) (c .refuse6 .ensures t f ∙ read-only-row SdoRoom _ (c .before .before .before .args .x) refl)
 
 returns-11 : tie.Need-returns-11
-returns-11 c = λ o. stands _ _ _ _ (c .before .before .before .register-at .ensures) (c .before .enum-told11 .given .1) (refused-row _ _ _ SdiLevel _ 2 (c .refuse7 .ensures) (λ z. omega arith) refl)
+returns-11 c = λ t f. rw (c .before .enum-told11 .given .1) (c .refuse7 .ensures t f ∙ read-only-row SdiLevel _ (c .before .before .before .args .x) refl)
 
 returns-12 : tie.Need-returns-12
-returns-12 c = λ o. stands _ _ _ _ (c .before .before .before .register-at .ensures) (c .before .enum-told12 .given .1) (refused-row _ _ _ IbiLevel _ 2 (c .refuse8 .ensures) (λ z. omega arith) refl)
-
-same-length : tie.Need-same-length
-same-length c = search needs
+returns-12 c = λ t f. rw (c .before .enum-told12 .given .1) (c .refuse8 .ensures t f ∙ read-only-row IbiLevel _ (c .before .before .before .args .x) refl)
 
 returns-13 : tie.Need-returns-13
-returns-13 c = λ o. stands _ _ _ _ (c .before .before .before .before .before .before .register-at .ensures) (c .before .before .before .before .enum-told13 .given .1) (c .before .before .write-cmd .ensures _)
+returns-13 c = λ t f. rw (c .before .enum-told13 .given .1) (c .write-cmd .ensures t f)
 
 returns-14 : tie.Need-returns-14
-returns-14 c = λ o. stands _ _ _ _ (c .before .before .before .register-at .ensures) (c .before .enum-told14 .given .1) (refused-row _ _ _ CmdrFifo _ 2 (c .refuse9 .ensures) (λ z. omega arith) refl)
-
-same-length-2 : tie.Need-same-length-2
-same-length-2 c = search needs
+returns-14 c = λ t f. rw (c .before .enum-told14 .given .1) (c .refuse9 .ensures t f ∙ read-only-row CmdrFifo _ (c .before .before .before .args .x) refl)
 
 returns-15 : tie.Need-returns-15
-returns-15 c = λ o. stands _ _ _ _ (c .before .before .before .before .before .before .register-at .ensures) (c .before .before .before .before .enum-told15 .given .1) (c .before .before .write-sdo .ensures _)
+returns-15 c = λ t f. rw (c .before .enum-told15 .given .1) (c .write-sdo .ensures t f)
 
 returns-16 : tie.Need-returns-16
-returns-16 c = λ o. stands _ _ _ _ (c .before .before .before .register-at .ensures) (c .before .enum-told16 .given .1) (refused-row _ _ _ SdiFifo _ 2 (c .refuse10 .ensures) (λ z. omega arith) refl)
+returns-16 c = λ t f. rw (c .before .enum-told16 .given .1) (c .refuse10 .ensures t f ∙ read-only-row SdiFifo _ (c .before .before .before .args .x) refl)
 
 returns-17 : tie.Need-returns-17
-returns-17 c = λ o. stands _ _ _ _ (c .before .before .before .register-at .ensures) (c .before .enum-told17 .given .1) (refused-row _ _ _ IbiFifo _ 2 (c .refuse11 .ensures) (λ z. omega arith) refl)
+returns-17 c = λ t f. rw (c .before .enum-told17 .given .1) (c .refuse11 .ensures t f ∙ read-only-row IbiFifo _ (c .before .before .before .args .x) refl)
 
 returns-18 : tie.Need-returns-18
-returns-18 c = λ o. stands _ _ _ _ (c .before .before .before .register-at .ensures) (c .before .enum-told18 .given .1) (refused-row _ _ _ FifoStatus _ 2 (c .refuse12 .ensures) (λ z. omega arith) refl)
+returns-18 c = λ t f. rw (c .before .enum-told18 .given .1) (c .refuse12 .ensures t f ∙ read-only-row FifoStatus _ (c .before .before .before .args .x) refl)
 
 returns-19 : tie.Need-returns-19
-returns-19 c = λ o. stands _ _ _ _ (c .before .before .before .register-at .ensures) (c .before .enum-told19 .given .1) (c .write-ops .ensures _ _)
+returns-19 c = λ t f. rw (c .before .enum-told19 .given .1) (c .write-ops .ensures t f)
 
 returns-20 : tie.Need-returns-20
-returns-20 c = λ o. stands _ _ _ _ (c .before .before .before .register-at .ensures) (c .before .enum-told20 .given .1) (c .write-config .ensures _ _)
+returns-20 c = λ t f. rw (c .before .enum-told20 .given .1) (c .write-config .ensures t f)
 
 returns-21 : tie.Need-returns-21
-returns-21 c = λ o. stands _ _ _ _ (c .before .before .before .before .register-at .ensures) (c .before .before .enum-told21 .given .1) (c .write-device .ensures _ _ _ _)
+returns-21 c = λ t f. rw (c .before .enum-told21 .given .1) (c .write-device .ensures t f)
 
 returns-22 : tie.Need-returns-22
-returns-22 c = λ o. stands _ _ _ _ (c .before .before .before .before .before .register-at .ensures) (c .before .before .before .r .given .1) (c .write-offload-cmd .ensures _ _ _ _)
+returns-22 c = λ t f. rw (c .before .before .r .given .1) (c .write-offload-cmd .ensures t f)
 
 returns-23 : tie.Need-returns-23
-returns-23 c = λ o. stands _ _ _ _ (c .before .before .before .before .before .register-at .ensures) (c .before .before .before .r2 .given .1) (c .write-offload-sdo .ensures _ _ _ _)
+returns-23 c = λ t f. rw (c .before .before .r2 .given .1) (c .write-offload-sdo .ensures t f)
 
 returns-24 : tie.Need-returns-24
-returns-24 c = λ o. stands _ _ _ _ (c .before .before .before .register-at .ensures) (c .before .enum-told22 .given .1) (refused-row _ _ _ Unmapped _ 4 (c .refuse13 .ensures) (λ z. omega arith) refl)
+returns-24 c = λ t f. rw (c .before .enum-told22 .given .1) (c .refuse13 .ensures t f ∙ refused-as (λ v. write (row Unmapped) v (c .before .before .before .args .x)) _ 4 (λ z. omega arith) refl)
 
 pub write-spec : {M : Type 1} → statement M
 write-spec =
     tie.close
     (tie.spec
-    register-at-requires
     enum-told
     refuse-requires
     enum-told-2
@@ -302,10 +289,8 @@ write-spec =
     returns-10
     returns-11
     returns-12
-    same-length
     returns-13
     returns-14
-    same-length-2
     returns-15
     returns-16
     returns-17

@@ -1,0 +1,27 @@
+-- An event where a burst is open, and where none is.
+use mathlib.Core.Path.{_≡_, ap, sym, _∙_}
+use mathlib.Core.Bool.{Bool, true, false, cond}
+use Rattle.bank.specs.Bursts.{bursting}
+use Rattle.model.specs.View.{View}
+use Rattle.model.specs.Decision.{Effect, Decision, _⇒_∣_, first, effect}
+use Rattle.model.specs.Bursts.{short, within}
+use Rattle.effect.specs.Effects.{verdictBy, verdict}
+use Rattle.effect.proofs.Laws.{past}
+
+-- outside a burst no output is too short
+pub never-short : (s : View) → bursting (s .control) ≡ false → short s ≡ false
+unfolding short
+never-short s e = rw e
+
+module _ (s : View) (i o : View → Decision) (y : Effect) where
+  -- by whether a burst is open
+  abbrev chosen : Bool → Effect
+  chosen b = let d = cond b (i s) (o s) in verdictBy (first d) s (effect d)
+
+  pub inside : bursting (s .control) ≡ true → y ≡ verdict (λ v. short v ⇒ 13 ∣ i v) s → y ≡ verdict (λ v. within v (i v) (o v)) s
+  unfolding verdict
+  inside e h = h ∙ sym (ap (λ (b : Bool). let d = short s ⇒ 13 ∣ cond b (i s) (o s) in verdictBy (first d) s (effect d)) e)
+
+  pub outside : bursting (s .control) ≡ false → y ≡ verdict o s → y ≡ verdict (λ v. within v (i v) (o v)) s
+  unfolding verdict
+  outside e h = past s short 13 (λ v. cond (bursting (v .control)) (i v) (o v)) y (never-short s e) (h ∙ sym (ap chosen e))

@@ -1,0 +1,55 @@
+// Events in an open burst, as decisions: the three that run it, and those that it bars.
+ghost use mathlib.Core.Path.{_≡_};
+ghost use mathlib.Core.Bool.{true, false, cond};
+ghost use mathlib.Core.List.{List};
+ghost use Prim.Native.Nat.{ℕ};
+ghost use lib.ListN.{length};
+ghost use Rattle.bank.specs.Bursts.{bursting};
+ghost use Rattle.bank.specs.Formed.{openOk};
+ghost use Rattle.model.specs.View.{Tables, tables};
+ghost use Rattle.model.specs.Decision.{unchanged, _withNumber_};
+ghost use Rattle.model.specs.Laws.{isAccess};
+ghost use Rattle.model.specs.Bursts.{misfit, decide};
+ghost use Rattle.effect.specs.Effects.{effectOf, verdict};
+ghost use Rattle.effect.specs.Seen.{Fronts, seen};
+use bank::State;
+use effect::Effect;
+use model::Call;
+
+// An event that an open burst bars: 13 where the output is shorter than the reads, else 5 in reset, else its own number.
+// Small, so that every caller has it inlined: an effect that one callee writes through a pointer stays in memory.
+pub fn bar(st: State, lacks: bool, n: u32) -> Effect
+    ensures { λ e. ⌜ ((t : Tables) (f : Fronts) → (let v = seen st t f in effectOf e t ≡ (unchanged v withNumber cond lacks 13 (cond (st .control .held) 5 n)))) ⌝ }
+{
+    effect::refuse(
+        st,
+        bank::select(lacks, 13, bank::select(st.control.held, 5, n)),
+    )
+}
+
+// Any event that passes 18. An access is not decided here: what is given for one is not promised.
+pub fn event(
+    st: State,
+    flags: &[u8; 128],
+    commands: &[u32; 16],
+    payloads: &[u32; 16],
+    len: usize,
+    call: Call,
+) -> Effect
+    requires { ⌜ (bursting (st .control) ≡ true) × (openOk (st .control) (st .regs) (st .phase) (now commands) ≡ true) ⌝ }
+    ensures { λ e. ⌜ ((o : List ℕ) (f : Fronts) → length o ≡ len → isAccess call ≡ false → misfit call ≡ false → (let t = tables (now (flags .entry)) (now (commands .entry)) (now (payloads .entry)) o in effectOf e t ≡ verdict (λ v. decide v call) (seen st t f))) ⌝ }
+{
+    let lacks = burst::is_lacking(st.regs, commands, len);
+    match call {
+        Call::Read(_) => effect::refuse(st, 13),
+        Call::Write(_, _) => effect::refuse(st, 13),
+        Call::Start => bar(st, lacks, 6),
+        Call::Send => burst::send(st, commands, payloads, len),
+        Call::Receive(byte) => burst::receive(st, commands, len, byte),
+        Call::Finish(code) => burst::finish(st, flags, commands, len, code),
+        Call::Interrupt(_, _) => bar(st, lacks, 6),
+        Call::Request(_, _) => bar(st, lacks, 10),
+        Call::Take => bar(st, lacks, 10),
+        Call::Trigger => bar(st, lacks, 6),
+    }
+}

@@ -1,0 +1,22 @@
+-- `read_rows::offload_word` meets its contract.
+use mathlib.Core.Path.{sym}
+use lib.ListN.{List·getD-eq-default}
+use denote.Ref.{now}
+use borrow.Author.Needs.{needs}
+use Rattle.read_rows.proofs.offload_word.Statement.{statement}
+use Rattle.read_rows.proofs.offload_word.Tie as tie
+
+mul-result : tie.Need-mul-result
+mul-result c = search needs
+
+shared-slice-read-result : tie.Need-shared-slice-read-result
+shared-slice-read-result c = search needs
+
+returns : tie.Need-returns
+returns c = search needs
+
+returns-2 : tie.Need-returns-2
+returns-2 c = sym (List·getD-eq-default (now (c .before .args .words)) 0 {n = c .before .args .i} (search needs))
+
+pub offload-word-spec : {M : Type 1} → statement M
+offload-word-spec = tie.close (tie.spec mul-result shared-slice-read-result returns returns-2)

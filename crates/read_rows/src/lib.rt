@@ -1,0 +1,166 @@
+// Register reads, row by row: what a register shows, and the three that take a word. `word` is the first of the queue that
+// the register takes from.
+ghost use mathlib.Core.Path.{_≡_};
+ghost use mathlib.Core.Bool.{_&&_};
+ghost use Prim.Native.Nat.{_+_, _*_, _^_, _<_, _≤_};
+ghost use lib.Dec.{eqb};
+ghost use lib.ListN.{getD};
+ghost use Rattle.registers.specs.declared.Register.the-variants.{CmdrFifo, SdiFifo, IbiFifo};
+ghost use Rattle.bank.specs.Bits.{bit, weigh};
+ghost use Rattle.model.specs.View.{Tables};
+ghost use Rattle.model.specs.Decision.{unchanged, _withValue_};
+ghost use Rattle.model.specs.Registers.{sources, row, read};
+ghost use Rattle.effect.specs.Effects.{effectOf, verdict};
+ghost use Rattle.effect.specs.Seen.{Fronts, seen};
+use bank::State;
+use effect::Effect;
+use effect::Op;
+
+// A weight where a test holds, else 0.
+pub fn weigh(test: bool, w: u32) -> u32
+    ensures { λ r. ⌜ (r ≡ weigh test w) × (r ≤ w) ⌝ }
+{
+    if test { w } else { 0 }
+}
+
+// The eight source bits, those that the mask has. Over plain bools: a proof about the sum need not look into a state.
+fn source_bits(m: u8, a: bool, b: bool, c: bool, d: bool, e: bool, f: bool, g: bool, h: bool) -> u32
+    ensures { λ r. ⌜ r ≡ weigh (a && bit 0 m) 1 + weigh (b && bit 1 m) 2 + weigh (c && bit 2 m) 4 + weigh (d && bit 3 m) 8 + weigh (e && bit 4 m) 16 + weigh (f && bit 5 m) 32 + weigh (g && bit 6 m) 64 + weigh (h && bit 7 m) 128 ⌝ }
+{
+    weigh(a & (m / 1 % 2 == 1), 1)
+        + weigh(b & (m / 2 % 2 == 1), 2)
+        + weigh(c & (m / 4 % 2 == 1), 4)
+        + weigh(d & (m / 8 % 2 == 1), 8)
+        + weigh(e & (m / 16 % 2 == 1), 16)
+        + weigh(f & (m / 32 % 2 == 1), 32)
+        + weigh(g & (m / 64 % 2 == 1), 64)
+        + weigh(h & (m / 128 % 2 == 1), 128)
+}
+
+// The sources of an interrupt, those that the mask has: IRQ_SOURCE has all, IRQ_PENDING those of IRQ_MASK.
+pub fn sources_in(st: State, m: u8) -> u32
+    ensures { λ r. ⌜ ((t : Tables) (f : Fronts) → r ≡ sources m (seen st t f)) ⌝ }
+{
+    let l = st.levels;
+    let w = st.regs.marks;
+    let c = st.control;
+    source_bits(
+        m,
+        l.cmd.0 < w.cmd.0,
+        w.cmdr.0 < l.cmdr.0,
+        l.sdo.0 < w.sdo.0,
+        w.sdi.0 < l.sdi.0,
+        w.ibi.0 < l.ibi.0,
+        c.cmdrpending,
+        c.ibipending,
+        c.daapending,
+    )
+}
+
+// FIFO_STATUS, by the levels.
+pub fn status_word(cmdr: u32, ibi: u32, sdi: u32) -> u32
+    ensures { λ r. ⌜ r ≡ weigh (eqb cmdr 0) 1 + weigh (eqb ibi 0) 2 + weigh (eqb sdi 0) 4 ⌝ }
+{
+    weigh(cmdr == 0, 1) + weigh(ibi == 0, 2) + weigh(sdi == 0, 4)
+}
+
+// A byte as a word.
+pub fn wide(x: u8) -> u32
+    ensures { λ r. ⌜ (r ≡ x) × (r < 256) ⌝ }
+{
+    x as u32
+}
+
+// OPS, with its bit 7.
+pub fn ops_word(idle: bool, ops: u8) -> u32
+    ensures { λ r. ⌜ r ≡ weigh idle 128 + ops ⌝ }
+{
+    weigh(idle, 128) + wide(ops)
+}
+
+// The flags of a device, or 0 past the last address.
+pub fn flags_at(flags: &[u8], a: u8) -> u8
+    ensures { λ r. ⌜ r ≡ getD (now (flags .entry)) a 0 ⌝ }
+{
+    let at = a as usize;
+    if at < flags.len() {
+        return flags[at];
+    }
+    0
+}
+
+// DEV_CHAR: the selected address and its flags.
+pub fn device_word(selected: u8, f: u8) -> u32
+    ensures { λ r. ⌜ r ≡ selected * 2 ^ 9 + f * 2 ⌝ }
+{
+    wide(selected) * 512 + wide(f) * 2
+}
+
+// A word of an offload memory, or 0 past its end.
+pub fn offload_word(words: &[u32], i: u32) -> u32
+    ensures { λ r. ⌜ r ≡ getD (now (words .entry)) i 0 ⌝ }
+{
+    let at = i as usize;
+    if at < words.len() {
+        return words[at];
+    }
+    0
+}
+
+// A read that changes nothing.
+pub fn show(st: State, value: u32) -> Effect
+    ensures { λ e. ⌜ ((t : Tables) (f : Fronts) → effectOf e t ≡ (unchanged (seen st t f) withValue value)) ⌝ }
+{
+    let g = st.regs;
+    let c = st.control;
+    let p = st.phase;
+    let o = effect::none();
+    effect::done(st, value, 0, g, c, p, o)
+}
+
+// A read of CMDR; one that empties the queue clears pending bit 5.
+pub fn read_cmdr(st: State, word: u32) -> Effect
+    ensures { λ e. ⌜ ((t : Tables) (f : Fronts) → word ≡ f .cmdr .first → effectOf e t ≡ verdict (read (row CmdrFifo)) (seen st t f)) ⌝ }
+{
+    let level = st.levels.cmdr.0;
+    if level == 0 {
+        return effect::refuse(st, 3);
+    }
+    let g = st.regs;
+    let mut c = st.control;
+    c.cmdrpending = !(level <= 1) & c.cmdrpending;
+    let p = st.phase;
+    let o = effect::on_cmdr(true, Op::Take(1));
+    effect::done(st, word, 0, g, c, p, o)
+}
+
+// A read of SDI.
+pub fn read_sdi(st: State, word: u32) -> Effect
+    ensures { λ e. ⌜ ((t : Tables) (f : Fronts) → word ≡ f .sdi .first → effectOf e t ≡ verdict (read (row SdiFifo)) (seen st t f)) ⌝ }
+{
+    let level = st.levels.sdi.0;
+    if level == 0 {
+        return effect::refuse(st, 3);
+    }
+    let g = st.regs;
+    let c = st.control;
+    let p = st.phase;
+    let o = effect::on_sdi(true, Op::Take(1));
+    effect::done(st, word, 0, g, c, p, o)
+}
+
+// A read of IBI; one that empties the queue clears pending bit 6.
+pub fn read_ibi(st: State, word: u32) -> Effect
+    ensures { λ e. ⌜ ((t : Tables) (f : Fronts) → word ≡ f .ibi .first → effectOf e t ≡ verdict (read (row IbiFifo)) (seen st t f)) ⌝ }
+{
+    let level = st.levels.ibi.0;
+    if level == 0 {
+        return effect::refuse(st, 3);
+    }
+    let g = st.regs;
+    let mut c = st.control;
+    c.ibipending = !(level <= 1) & c.ibipending;
+    let p = st.phase;
+    let o = effect::on_ibi(true, Op::Take(1));
+    effect::done(st, word, 0, g, c, p, o)
+}

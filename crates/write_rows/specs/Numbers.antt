@@ -1,0 +1,7 @@
+-- The number of a push.
+use Prim.Native.Nat.{ℕ}
+use mathlib.Core.Bool.{Bool, cond}
+use lib.Dec.{leb}
+
+abbrev pub pushNumber : Bool → ℕ → ℕ → ℕ
+pushNumber held cap level = cond held 5 (cond (leb cap level) 1 0)

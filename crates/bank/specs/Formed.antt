@@ -61,6 +61,7 @@ controlClear c = eqb (c .sync) 0 && eqb (c .ibisync) 0 && not (c .cmdrpending) &
 unfoldable pub resetOk : Control → Phase → Queues → Bool
 resetOk c p q = not (c .held) || (queuesClear q && controlClear c && idle p)
 
+-- the watermarks, which are set-up numbers too, stand among the registers
 unfoldable pub wellFormed : Bank → Bool
 wellFormed b =
     let s = b .state in

@@ -12,13 +12,14 @@ use Rattle.bank.specs.declared.Bank.{Bank}
 use Rattle.bank.specs.declared.Sizes.{Sizes}
 use Rattle.bank.specs.declared.SetUp.{SetUp}
 
--- "Capacities: CMD and SDI 2 to 1,024, the others 1 to 1,024. A watermark is 0 to its queue's capacity"
+-- "Capacities: CMD and SDI 2 to 1,024, the others 1 to 1,024."
 abbrev pub sizeOk : ℕ → ℕ → Bool
 sizeOk least cap = leb least cap && leb cap 1024
 
 unfoldable pub capsOk : Counts → Bool
 capsOk k = sizeOk 2 (k .cmd .0) && sizeOk 1 (k .cmdr .0) && sizeOk 1 (k .sdo .0) && sizeOk 2 (k .sdi .0) && sizeOk 1 (k .ibi .0)
 
+-- "A watermark is 0 to its queue's capacity"
 unfoldable pub marksOk : Counts → Counts → Bool
 marksOk m k = leb (m .cmd .0) (k .cmd .0) && leb (m .cmdr .0) (k .cmdr .0) && leb (m .sdo .0) (k .sdo .0) && leb (m .sdi .0) (k .sdi .0) && leb (m .ibi .0) (k .ibi .0)
 

@@ -15,7 +15,7 @@ use bank::bursts;
 use effect::Effect;
 use model::Call;
 
-// Whether the argument of a call fits no command: a code above 15, an address above 127.
+// Whether an argument of a call is out of its range: a code above 15, an address above 127.
 fn is_misfit(call: Call) -> bool
     ensures { λ b. ⌜ b ≡ misfit call ⌝ }
 {

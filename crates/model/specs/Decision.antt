@@ -26,7 +26,7 @@ only Ibi o = each keep keep keep keep o
 
 pub record Effect : Type 0 where
   pub value : ℕ
-  pub number : ℕ  -- 0, or 19
+  pub number : ℕ  -- 0 or 19; of a refusal, its number
   pub regs : Regs
   pub control : Control
   pub phase : Phase

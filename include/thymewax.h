@@ -19,8 +19,8 @@
  * What holds of every call:
  * - It takes any numbers and any contents of lent memory, and ends with a number.
  * - A number other than THYMEWAX_DONE and THYMEWAX_WRONG_PARITY is a refusal: the
- *   value is 0, and no word of image, store and output has changed. (A replay
- *   that ends with THYMEWAX_WRONG_RECORD leaves what the records before left.)
+ *   value is 0, and no word of lent memory has changed. (A replay that ends with
+ *   THYMEWAX_WRONG_RECORD leaves what the records before left, and tells it.)
  * - Memory is lent as a pointer and a count, for the time of the call. The count
  *   must be true, and no two lent pieces may overlap. A count of 0 may go with a
  *   null pointer.
@@ -150,20 +150,20 @@ uint64_t thymewax_step(uint32_t *image, size_t image_words,
                        uint32_t first, uint32_t second);
 
 /* Replays a section of a trace file, numbered from 0: at most limit records of
- * it, each as the same call by itself, with an empty output. Gives 21, 24, 25 or
- * 26 with no record done; 27 with the records before the wrong one done; else 0,
- * whatever the records are answered. told takes three words, or as many of them
- * as it has: how many records were done, value and number of the last one's
- * answer (0, 0, 0 if none was). */
+ * it, each as the same call by itself, with an empty output. Gives 24, 25 or 26
+ * with no record done; 27 with the records before the wrong one done; else 0,
+ * whatever the records are answered: 21 each where the image is none. With 0 and
+ * 27 told takes three words, or as many of them as it has: how many records were
+ * done, value and number of the last one's answer (0, 0, 0 if none was). */
 uint32_t thymewax_replay(uint32_t *image, size_t image_words,
                          uint32_t *store, size_t store_words,
                          const uint8_t *file, size_t file_bytes,
                          uint32_t section, size_t limit,
                          uint32_t *told, size_t told_words);
 
-/* Finds a section of a trace file. Gives 0, 24, 25 or 26. place takes two words,
- * or as many of them as it has: the section's first byte in the file and its
- * length in bytes (0, 0 if refused). */
+/* Finds a section of a trace file. Gives 0, 24, 25 or 26. With 0 place takes two
+ * words, or as many of them as it has: the section's first byte in the file and
+ * its length in bytes. */
 uint32_t thymewax_section(const uint8_t *file, size_t file_bytes,
                           uint32_t section,
                           uint32_t *place, size_t place_words);
@@ -193,7 +193,7 @@ struct thymewax {
 
 /* What a replay gives. */
 struct thymewax_replayed {
-    uint32_t number;             /* 0, 21, 24, 25, 26 or 27 */
+    uint32_t number;             /* 0, 24, 25, 26 or 27 */
     uint32_t count;              /* how many records were done */
     struct thymewax_answer last; /* the last one's answer; 0, 0 if none was done */
 };
@@ -201,8 +201,8 @@ struct thymewax_replayed {
 /* Where a section lies in its file. */
 struct thymewax_place {
     uint32_t number; /* 0, 24, 25 or 26 */
-    uint32_t first;  /* its first byte */
-    uint32_t bytes;  /* its length: 12 bytes a record */
+    uint32_t first;  /* its first byte; 0 if refused */
+    uint32_t bytes;  /* its length, 12 bytes a record; 0 if refused */
 };
 
 /* How long the store for these capacities is. */
@@ -328,7 +328,8 @@ static inline struct thymewax_answer thymewax_trigger(struct thymewax *m)
     return thymewax_model_step(m, THYMEWAX_LETTER_TRIGGER, 0, 0, 0);
 }
 
-/* Replays a section on a model: thymewax_replay. SIZE_MAX as limit is no limit. */
+/* Replays a section on a model: thymewax_replay. SIZE_MAX as limit is no limit.
+ * Where it is refused, count and last answer are 0. */
 static inline struct thymewax_replayed thymewax_model_replay(struct thymewax *m,
                                                              const uint8_t *file,
                                                              size_t file_bytes,

@@ -96,7 +96,8 @@ CALLS = (
 )
 
 # A model by the inline functions beside one by the archive's. Five different capacities and
-# watermarks show a wrong order. The trace has two sections, of two records and of one.
+# watermarks show a wrong order. The trace has three sections, of two records, of one, and of one with
+# a wrong one behind it. A refusal writes no lent word, and the inline functions give 0 then.
 PROGRAM = r'''
 #include <stdio.h>
 #include <stdlib.h>
@@ -105,9 +106,10 @@ PROGRAM = r'''
 
 static const uint32_t capacities[5] = {6, 5, 4, 7, 3}, watermarks[5] = {5, 4, 3, 2, 1};
 static const uint8_t trace[] = {
-    'I', '3', 'T', 'R', 2, 0, 22, 0, 0, 0, 2, 0, 0, 0, 46, 0, 0, 0, 1, 0, 0, 0,
+    'I', '3', 'T', 'R', 3, 0, 30, 0, 0, 0, 2, 0, 0, 0, 54, 0, 0, 0, 1, 0, 0, 0, 66, 0, 0, 0, 2, 0, 0, 0,
     'R', 0, 8, 0, 0, 0, 0, 0, 0, 0, 0, 0, 'R', 0, 6, 0, 0, 0, 0, 0, 0, 0, 0, 0,
-    'R', 0, 4, 0, 0, 0, 0, 0, 0, 0, 0, 0};
+    'R', 0, 4, 0, 0, 0, 0, 0, 0, 0, 0, 0,
+    'R', 0, 4, 0, 0, 0, 0, 0, 0, 0, 0, 0, 'G', 0, 0, 0, 0, 0, 0, 0, 0, 0, 0, 0};
 static uint32_t image[200], store[25], output[1], m_store[25], m_output[1];
 static uint32_t old_image[200], old_store[25], old_output[1];
 static struct thymewax m;
@@ -149,17 +151,38 @@ static void call(const char *what, struct thymewax_answer a, uint32_t letter, ui
     expect(what, number == 0 || number == 19 || (a.value == 0 && unchanged()));
 }
 
-static void replay(uint32_t section, size_t limit)
+static void is_told(const char *what, int done, uint32_t given, uint32_t told)
+{
+    expect(what, done ? given == told : given == 0 && told == 9);
+}
+
+static uint32_t replay(size_t bytes, uint32_t section, size_t limit)
 {
     uint32_t told[3] = {9, 9, 9}, place[2] = {9, 9};
-    struct thymewax_replayed r = thymewax_model_replay(&m, trace, sizeof trace, section, limit);
-    struct thymewax_place p = thymewax_find_section(trace, sizeof trace, section);
-    uint32_t number = thymewax_replay(image, 200, store, 25, trace, sizeof trace, section, limit, told, 3);
+    struct thymewax_replayed r = thymewax_model_replay(&m, trace, bytes, section, limit);
+    struct thymewax_place p = thymewax_find_section(trace, bytes, section);
+    keep();
+    uint32_t number = thymewax_replay(image, 200, store, 25, trace, bytes, section, limit, told, 3);
+    int done = number == 0 || number == 27;
     expect("a replay's number", r.number == number);
-    expect("a replay's count", r.count == told[0] && same());
-    expect("a replay's answer", r.last.value == told[1] && r.last.number == told[2]);
-    expect("a section's number", p.number == thymewax_section(trace, sizeof trace, section, place, 2));
-    expect("a section's place", p.first == place[0] && p.bytes == place[1]);
+    expect("a replay's memory", same() && (done || unchanged()));
+    is_told("a replay's count", done, r.count, told[0]);
+    is_told("a replay's answer", done, r.last.value, told[1]);
+    is_told("a replay's answer", done, r.last.number, told[2]);
+    expect("a section's number", p.number == thymewax_section(trace, bytes, section, place, 2));
+    is_told("a section's place", p.number == 0, p.first, place[0]);
+    is_told("a section's place", p.number == 0, p.bytes, place[1]);
+    return number;
+}
+
+static void replays(void)
+{
+    for (uint32_t section = 0; section < 4; section++)
+        for (size_t limit = 0; limit < 3; limit++)
+            expect("the number of a replay", replay(sizeof trace, section, limit)
+                       == (section == 3 ? 26u : section == 2 && limit == 2 ? 27u : 0u));
+    expect("24", replay(3, 0, 9) == 24);
+    expect("25", replay(sizeof trace - 1, 0, 9) == 25);
 }
 
 int main(void)
@@ -177,9 +200,12 @@ int main(void)
     m.output = m_output;
     m.output_words = 1;
 CALLS
-    for (uint32_t section = 0; section < 3; section++)
-        for (size_t limit = 0; limit < 3; limit++)
-            replay(section, limit);
+    replays();
+    m.image[0] = image[0] = 5000;
+    replays();
+    expect("21 of each record", thymewax_model_replay(&m, trace, sizeof trace, 0, 9).number == 0);
+    expect("21 of each record", thymewax_model_replay(&m, trace, sizeof trace, 0, 9).count == 2);
+    expect("21 of each record", thymewax_model_replay(&m, trace, sizeof trace, 0, 9).last.number == 21);
     return 0;
 }
 '''
@@ -225,6 +251,8 @@ DAMAGES = (
     ('address, byte);', 'address, byte & 0xff);'),
     ('replayed.last.value = told[1]', 'replayed.last.value = told[2]'),
     ('place.bytes = found[1]', 'place.bytes = found[0]'),
+    ('told[3] = {0, 0, 0}', 'told[3] = {0, 0, 1}'),
+    ('found[2] = {0, 0}', 'found[2] = {0, 1}'),
     # warnings
     ('uint64_t high = packed >> 32', 'uint32_t high = packed >> 32'),
     ('size_t words = 0;', 'size_t words = 0; int unused;'),

@@ -3,9 +3,9 @@
 
     pieces.py PROGRAM
 
-The same script in pieces of any length gives the same output; an output that
-cannot be written ends the program quietly, with status 0; a million calls need
-less memory than their script. Exit status 0 only if all of it holds.
+The same script in pieces of any length gives the same output; a million calls need
+less memory than their script. Reads and writes that fail: tests/descriptors.py. Exit
+status 0 only if all of it holds.
 """
 
 import fcntl
@@ -71,14 +71,6 @@ def fed(program, parts):
         return sink.read(), taken
 
 
-def unwritable(program, data):
-    """An output that cannot be written."""
-    with open("/dev/full", "wb") as full:
-        done = subprocess.run(shlex.split(program), input=data, stdout=full, stderr=subprocess.PIPE)
-    if done.returncode != 0 or done.stderr:
-        raise Fault(f"an output that cannot be written: status {done.returncode}, {done.stderr!r}")
-
-
 def bounded(program, data):
     """What a command writes within the memory that it gets."""
     limited = f"ulimit -v {MEMORY_KIB} && exec {program}"
@@ -94,7 +86,6 @@ def check(program):
     for length in PIECES:
         if fed(program, pieces(script, length))[0] != whole:
             raise Fault(f"pieces of {length} bytes: another output")
-    unwritable(program, script)
     if bounded(program, generated(2, CALLS)).count(b"\n") != CALLS:
         raise Fault(f"{CALLS} calls within {MEMORY_KIB} KiB: not as many answers")
     print(f"pieces: {len(whole)} bytes the same in pieces of {PIECES}; {CALLS} calls within {MEMORY_KIB} KiB")

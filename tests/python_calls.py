@@ -11,7 +11,7 @@ import threading
 
 from python_trial import equal, generated, main, raises
 
-from thymewax import (OFFLOAD_CMD, OFFLOAD_SDO, Answer, Command, Device, Image, Irq, Model,
+from thymewax import (OFFLOAD_CMD, OFFLOAD_SDO, Answer, Command, Device, Image, Irq, Model, Number,
                       Ops, Receipt, Refused, Register, SetUp, section, sections, session)
 from thymewax.calls import DIGITS
 
@@ -79,6 +79,31 @@ def every_call():
             ('take', model.take_address(), 8),
             ('finish', model.finish(0), 0x002)):
         equal('every call', name, got, Answer(wanted, 0))
+
+
+def truth():
+    """An answer is true exactly at 0, and `done` raises at every other number, with its name."""
+    for number in Number:
+        answer = Answer(7, int(number))
+        equal('truth', number, bool(answer), number == 0)
+        if answer:
+            equal('truth', number, answer.done() is answer, True)
+        else:
+            refusal = raises('truth', number, Refused, answer.done)
+            equal('truth', number, (refusal.number, str(refusal)),
+                  (number, '%d: %s (%s)' % (number, answer.meaning, number.name)))
+    model = Model.set_up(cmd=2)
+    equal('truth', 'held in reset', bool(model.write(Register.CMD_FIFO, 0)), False)
+    model.write(Register.ENABLE, 0).done()
+    equal('truth', 'value', model.read(Register.CMD_FIFO_ROOM).done().value, 2)
+    # A wrong parity bit: the word is taken, which is not all that was asked.
+    for word in (Command(ccc=True).word, 7):
+        model.write(Register.CMD_FIFO, word).done()
+    for answer in (model.start(), model.request(1, 2), model.write(Register.SDO_FIFO, 0x11000000)):
+        answer.done()
+    taken = model.take_address()
+    equal('truth', 'wrong parity', (taken, bool(taken), taken.refused), ((8, 19), False, False))
+    equal('truth', 'wrong parity', raises('truth', taken, Refused, taken.done).number, 19)
 
 
 def bursts():
@@ -319,5 +344,5 @@ def threads():
 
 
 if __name__ == '__main__':
-    main('python_calls', [worked_session, every_call, bursts, set_ups, ranges, no_calls, images,
-                          tables, goes_on, copies, copies_in_calls, threads])
+    main('python_calls', [worked_session, every_call, truth, bursts, set_ups, ranges, no_calls,
+                          images, tables, goes_on, copies, copies_in_calls, threads])

@@ -11,7 +11,7 @@ import re
 from python_trial import equal, generated, main
 
 from generate import Source
-from thymewax import Answer, Call, Model, Register, SetUp, session, trace
+from thymewax import Answer, Call, Model, Register, SetUp, section, session, trace
 from thymewax.calls import DIGITS
 from thymewax.image import WORDS
 from thymewax.library import Word, load
@@ -42,17 +42,19 @@ def released():
     for line in (b'W 40 0', b'W 140 3', b'W 180 110e', b'I 8 5a', b'W dc 1', b'W d4 11', b'S',
                  b'F 0', b'W d4 611', b'W d4 10', b'W d4 10', b'S', b'X 1', b'X 2', b'X 3', b'X 4',
                  b'X 5'):
-        equal('the bank to damage', line, model.make(session.call_of(line)).done, True)
+        equal('the bank to damage', line, bool(model.make(session.call_of(line))), True)
     return model
 
 
 def refuses(name, image, store):
-    """Every call and a replay are 21, and no word changes."""
+    """Every call, and every record of a replay, is 21, and no word changes."""
     model = Model(image, store, [5, 6])
     before = state(model)
     for call in CALLS:
         equal('damaged images', '%s, %s' % (name, call), model.make(call), Answer(0, 21))
-    equal('damaged images', name, model.replay(TRACE), (21, 0, (0, 0)))
+    equal('damaged images', name, model.replay(TRACE), (0, 2, (0, 21)))
+    equal('damaged images', name, model.replay(TRACE, limit=0), (0, 0, (0, 0)))
+    equal('damaged images', name, model.replay(TRACE[:-1]), (25, 0, (0, 0)))
     equal('damaged images', name, state(model), before)
 
 
@@ -161,9 +163,6 @@ def raw_lengths():
         number = library.thymewax_section(TRACE, len(TRACE), 0, place, length)
         equal('raw lengths', 'place of %d' % length, (number, list(place)),
               (0, ([14, 24] + [9] * 4)[:length]))
-        number = library.thymewax_section(TRACE, len(TRACE), 1, place, length)
-        equal('raw lengths', 'place of %d, refused' % length, (number, list(place)),
-              (26, ([0, 0] + [9] * 4)[:length]))
     # A part of a file is a file of its own.
     for length in range(len(TRACE) + 1):
         number = library.thymewax_section(TRACE, length, 0, words(0, 0), 2)
@@ -173,6 +172,26 @@ def raw_lengths():
     image, store = words(*model.image()), words(*model.store())
     equal('raw lengths', 'no output', library.thymewax_step(
         image, WORDS, store, len(store), empty, 0, ord('R'), Register.VERSION, 0, 0), 0x100)
+
+
+def raw_refusals():
+    """A refusal writes no lent word; the binding then gives 0, 0 and an empty section."""
+    library = load()
+    good = released()
+    for image in (good.image(), with_word(good.image(), 0, 1025), list(good.image())[:199]):
+        for file, asked, number in ((b'', 0, 24), (TRACE[:3], 0, 24), (TRACE[:-1], 0, 25),
+                                    (TRACE, 1, 26)):
+            kept, store, told, place = (words(*image), words(*good.store()), words(9, 9, 9),
+                                        words(9, 9))
+            equal('raw refusals', number, library.thymewax_replay(
+                kept, len(kept), store, len(store), file, len(file), asked, 9, told, 3), number)
+            equal('raw refusals', number,
+                  library.thymewax_section(file, len(file), asked, place, 2), number)
+            equal('raw refusals', number, (list(kept), tuple(store), list(told), list(place)),
+                  (list(image), good.store(), [9, 9, 9], [9, 9]))
+            equal('raw refusals', number, Model(image, good.store()).replay(file, asked),
+                  (number, 0, (0, 0)))
+            equal('raw refusals', number, section(file, asked), (number, 0, 0))
 
 
 def refused_in_scripts():
@@ -195,4 +214,4 @@ def refused_in_scripts():
 
 if __name__ == '__main__':
     main('python_damage', [damaged, damaged_at_random, other_stores, raw_set_up, raw_lengths,
-                           refused_in_scripts])
+                           raw_refusals, refused_in_scripts])

@@ -81,6 +81,7 @@ def compare(name, file):
         equal('damaged traces', name, refusal.number, error.number)
         equal('damaged traces', name, section(file, 0), (error.number, 0, 0))
         equal('damaged traces', name, model.replay(file), (error.number, 0, (0, 0)))
+        equal('damaged traces', name, (bool(model.replay(file)), bool(section(file, 0))), (False, False))
         return error.number
     # Where each part of the file begins and how long it is.
     start, places = trace.header_bytes(len(parts)), []
@@ -91,7 +92,7 @@ def compare(name, file):
     for number, part in enumerate(parts):
         done, end = before_wrong(part)
         replayed = model.replay(file, number)
-        equal('damaged traces', name, (replayed.number, replayed.count), (end, done))
+        equal('damaged traces', name, (replayed.number, replayed.count, bool(replayed)), (end, done, end == 0))
         if end:
             return end
     return 0

@@ -1,6 +1,6 @@
 #!/usr/bin/env python3
 """Input that a tool cannot use: status 2, one line on standard error, nothing on standard output.
-Output that it cannot write is told the same way.
+Output that it cannot write, and streams that are closed, are told the same way.
 
     tools_errors.py
 
@@ -12,7 +12,7 @@ import subprocess
 import sys
 import tempfile
 
-from python_trial import ROOT, equal, main, tool
+from python_trial import ROOT, equal, main, run, tool
 
 import faults
 from pack import join, pack
@@ -162,7 +162,45 @@ def full_output():
                   (2, b'%s: output: No space left on device\n' % name.encode()))
 
 
+# A redirection, and what the tool says; None where standard error is no place to say it.
+STREAMS = [
+    ('>&-', 'standard output is closed'), ('--help >&-', 'standard output is closed'),
+    ('--help >/dev/full', 'output: No space left on device'),
+    ('1<"$1"', 'output: Bad file descriptor'), ('>&- 2>&-', None), ('>/dev/full 2>/dev/full', None),
+    ('--nothing 2>&-', None),
+]
+# The same where the input is to be read.
+READ_STREAMS = [
+    ('<&-', 'standard input is closed'), ('<&- >&-', 'standard output is closed'),
+    ('0>/dev/null', 'standard input: Bad file descriptor'), ('<&- 2>&-', None),
+]
+
+
+def redirected(name, how, file):
+    """Status and both outputs of a tool with streams as a shell makes them; "$1" is a file."""
+    return run(['bash', '-c', '"$0" -B "$2" ' + how, sys.executable, file, ROOT / 'tools' / name])
+
+
+def streams():
+    """Streams that are closed, that are open the wrong way, or that are full."""
+    with tempfile.TemporaryDirectory() as folder:
+        file = pathlib.Path(folder) / 'input'
+        for name in (*TOOLS, 'svd.py'):
+            file.write_bytes(pack(RIGHT) if name == 'unpack' else RIGHT)
+            takes = '' if name == 'svd.py' else '"$1" '
+            cases = [(takes + how, told) for how, told in STREAMS]
+            if takes:
+                cases += READ_STREAMS + [(how + ' <"$1"', told) for how, told in STREAMS]
+            for how, told in cases:
+                message = '%s: %s\n' % (name.removesuffix('.py'), told) if told else ''
+                equal('streams', '%s %s' % (name, how), redirected(name, how, file),
+                      (2, b'', message.encode()))
+            status, output, message = redirected(name, takes + '<&-', file)
+            equal('streams', '%s, no input needed' % name, (status, message), (0, b''))
+            equal('streams', '%s, no input needed' % name, output != b'', True)
+
+
 if __name__ == '__main__':
     main('tools_errors', [arguments, lines, many_sections, not_for_pack, broken_traces,
                           wrong_record, set_ups, recordings, no_library, closed_output,
-                          full_output])
+                          full_output, streams])

@@ -6,6 +6,11 @@
 Exit status 0 only if all is as expected.
 """
 
+import os
+import subprocess
+import sys
+import time
+
 from python_trial import equal, generated, main, tool
 
 from generate import Source
@@ -51,6 +56,22 @@ def round_trips():
                 both_ways(sectioned(source, script, sections), sections)
 
 
+def waiting():
+    """A script that comes in two pieces through an input that is not ready between them."""
+    read_end, write_end = os.pipe()
+    os.set_blocking(read_end, False)
+    run = subprocess.Popen([sys.executable, '-B', 'tools/pack'], stdin=read_end, stdout=subprocess.PIPE)
+    os.close(read_end)
+    for piece in (b'W 40 0\nR c', b'0\n'):
+        os.write(write_end, piece)
+        time.sleep(1)
+    os.close(write_end)
+    file = run.communicate()[0]
+    equal('not ready', 'status', run.returncode, 0)
+    equal('not ready', 'calls', list(trace.calls(trace.sections(file)[0])),
+          [session.call_of(b'W 40 0'), session.call_of(b'R c0')])
+
+
 def both_ways(script, sections):
     """Pack gives the calls of the script; unpack gives them again; pack of that the same bytes."""
     file = made('pack', 'pack', '--skip', data=script)
@@ -80,4 +101,4 @@ def help_texts():
 
 
 if __name__ == '__main__':
-    main('tools_pack', [round_trips, strict, help_texts])
+    main('tools_pack', [round_trips, strict, waiting, help_texts])

@@ -5,11 +5,13 @@
 
 A command is a line of a fenced block that begins with `$ `, with the lines up to END where it takes
 them; what it prints are the lines up to the next. They run in order in a folder of their own, with
-an empty target/. Needs the shared library. Exit status 0 only if every byte is the same.
+an empty target/. Needs the shared library. Exit status 0 only if every byte is the same, and the
+page's pictures are there.
 """
 
 import os
 import pathlib
+import re
 import tempfile
 
 from python_trial import ROOT, equal, main, run
@@ -20,8 +22,9 @@ from tour import fenced_blocks
 PAGE = ROOT / 'docs/BENCH.md'
 PROMPT, HERE, END = b'$ ', b"<<'END'", b'END\n'
 # What the page must show.
-TOOLS = (b'tools/pack', b'tools/explain', b'tools/wave')
+TOOLS = (b'tools/session', b'tools/replay', b'tools/pack', b'tools/explain', b'tools/wave')
 LEAST = 7
+MOST_BYTES = 100000
 
 
 def commands(block):
@@ -57,5 +60,14 @@ def page():
         os.chdir(ROOT)
 
 
+def pictures():
+    """The page shows a picture of the wave, and every picture that it names is there and small."""
+    names = re.findall(r'^!\[.+\]\((\S+)\)$', PAGE.read_text(), re.MULTILINE)
+    equal('pictures', 'the wave', 'wave.png' in names, True)
+    for name in names:
+        data = (PAGE.parent / name).read_bytes()
+        equal('pictures', name, (data[:8], len(data) < MOST_BYTES), (b'\x89PNG\r\n\x1a\n', True))
+
+
 if __name__ == '__main__':
-    main('tools_page', [page])
+    main('tools_page', [page, pictures])

@@ -7,9 +7,9 @@ REPLAY and REFERENCE are commands that read a trace from standard input, SESSION
 one that reads a script. For each trace both must print SESSION's answers to the
 records that a replay does by 02 section 1, then the line of the number that ends it,
 if one does, with status 0 and no message. REPLAY alone gets traces in pieces and
-endless ones, little memory, and an output that cannot be written. docs/GENERATOR.md
-gives the rule of the traces. Exit status 0 only if all of it holds and every kind of
-trace, every number and an answer 0 for every letter occurred.
+endless ones, and little memory. docs/GENERATOR.md gives the rule of the traces. Exit
+status 0 only if all of it holds and every kind of trace, every number and an answer 0
+for every letter occurred.
 """
 
 import shlex
@@ -23,7 +23,7 @@ import faults
 from difference import call_lines, first_difference, shown
 from generate import Source
 from pack import MOST_BYTES, RECORD, header, header_bytes, join, pack, records, rows
-from pieces import Fault, bounded, fed, generated, pieces, unwritable
+from pieces import Fault, bounded, fed, generated, pieces
 
 SEEDS = (1, 2, 3, 5, 8, 13, 21, 34)
 CALLS = 100000
@@ -252,12 +252,6 @@ def endless(trial):
             raise Fault('%s: %d bytes read' % (trial.replay, taken))
 
 
-def no_output(trial):
-    for name, trace in long_traces().items():
-        trial.begin('no output', name, trace)
-        unwritable(trial.replay, trace)
-
-
 def failure(trial, fault):
     kind, name, trace = trial.case
     hexed = trace.hex() if len(trace) <= SHOWN_BYTES else '%d bytes' % len(trace)
@@ -267,7 +261,7 @@ def failure(trial, fault):
 def report(trial):
     """Whether all occurred that should; prints what did."""
     kinds = ['sound in %d' % sections for sections in SECTIONS] + ['no record', '16 MiB']
-    kinds += list(map(kind_name, faults.KINDS)) + ['in pieces', 'endless', 'no output']
+    kinds += list(map(kind_name, faults.KINDS)) + ['in pieces', 'endless']
     print('traces: %d cases: %s; ended by %s' % (
         sum(trial.kinds.values()),
         ', '.join('%s: %d' % (kind, trial.kinds[kind]) for kind in kinds),
@@ -285,7 +279,7 @@ def main():
         sys.exit(__doc__)
     trial = Trial(*sys.argv[1:])
     try:
-        for part in (sound_traces, damaged_traces, in_pieces, endless, no_output, largest_trace):
+        for part in (sound_traces, damaged_traces, in_pieces, endless, largest_trace):
             part(trial)
     except Fault as fault:
         sys.exit(failure(trial, fault))

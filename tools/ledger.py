@@ -46,7 +46,7 @@ class Ledger:
 
     def follow(self, made: Made) -> Entry | None:
         """Counts a call; gives the command that it was about, if it was done and about one."""
-        if not made.answer.done:
+        if not made.answer:
             return None
         about = {
             ('W', Register.CMD_FIFO): self._take,

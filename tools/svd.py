@@ -7,15 +7,16 @@ Offsets, and which registers there are, come from crates/registers/specs/Map.ant
 within); what a read and a write of each do from crates/model/specs/Registers.antt (row, shown).
 TABLE has what these do not say: names, bits, words for people, first values. A register of the map
 that TABLE lacks, or the other way round, is an error. Exit status 0, or 1 with a message and no
-output, 2 for wrong arguments.
+output, 2 for wrong arguments or output that cannot be written.
 """
 
-import argparse
 import pathlib
 import re
 import sys
 from collections import namedtuple
 from xml.sax.saxutils import escape
+
+import inputs
 
 ROOT = pathlib.Path(__file__).resolve().parent.parent
 MAP = ROOT / 'crates/registers/specs/Map.antt'
@@ -386,9 +387,9 @@ def read_text(path):
         raise Wrong('cannot read %s: %s' % (path, error)) from None
 
 
-def main():
-    parser = argparse.ArgumentParser(
-        description='Writes the register map as a CMSIS-SVD file to standard output.')
+def work():
+    parser = inputs.Parser(
+        prog='svd', description='Writes the register map as a CMSIS-SVD file to standard output.')
     parser.add_argument('--map', default=MAP, metavar='FILE',
                         help='the list of offsets (default: crates/registers/specs/Map.antt)')
     parser.add_argument('--rows', default=ROWS, metavar='FILE',
@@ -398,9 +399,11 @@ def main():
     try:
         text = svd(read_text(given.map), read_text(given.rows))
     except Wrong as error:
-        sys.exit('svd: %s' % error)
+        inputs.say('svd', error)
+        return 1
     sys.stdout.buffer.write(text.encode('utf-8'))
+    return 0
 
 
 if __name__ == '__main__':
-    main()
+    inputs.main('svd', work)

@@ -3,6 +3,7 @@
 from collections.abc import Callable, Sequence
 
 from inputs import Made
+from ledger import Entry
 from thymewax import (OFFLOAD_CMD, OFFLOAD_SDO, AddressWord, Call, Ccc, Command, Config, Device,
                       Image, Interrupt, Irq, Kind, Number, Ops, Phase, Receipt, Register, Status,
                       name_of)
@@ -162,6 +163,11 @@ def write(call: Call, before: Image, awaits_second: bool) -> str:
 
 # ── What a call was, and what it gave ───────────────────────────────────────────────────────────
 
+# What a letter names.
+CALLS = {
+    'W': 'write', 'R': 'read', 'S': 'start', 'T': 'send', 'X': 'receive', 'F': 'finish',
+    'I': 'interrupt request', 'D': 'address request', 'A': 'address take', 'G': 'trigger',
+}
 EVENTS: dict[str, Callable[[Call], str]] = {
     'R': lambda call: 'read %s' % register(call.offset),
     'S': lambda call: 'start',
@@ -217,6 +223,15 @@ GIVEN: dict[str, Callable[[Made], str]] = {
 def given(made: Made) -> str:
     """What the call gave, where it was done and gave something."""
     return GIVEN.get(made.call.letter, lambda made: '')(made)
+
+
+def told(made: Made, asked: str, about: Entry | None) -> str:
+    """What a call was, what it gave, and the command that it was about."""
+    if made.answer.refused or made.call.letter == 'W':
+        return asked
+    whose = about and '%s (call %d)' % (command(about.words), about.written)
+    more = '; '.join(filter(None, [given(made), whose]))
+    return '%s: %s' % (asked, more) if more else asked
 
 
 # ── Why a call was refused ──────────────────────────────────────────────────────────────────────

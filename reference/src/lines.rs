@@ -89,7 +89,7 @@ fn parse_offset(field: &[u8]) -> Option<u16> {
     parse_hex(field, 4).and_then(|value| u16::try_from(value).ok())
 }
 
-fn parse_word(field: &[u8]) -> Option<u32> {
+pub(crate) fn parse_word(field: &[u8]) -> Option<u32> {
     parse_hex(field, 8)
 }
 

@@ -3,12 +3,13 @@
 //! `reference` runs a session from standard input, `reference test` also takes
 //! lines for set-ups and bursts, `reference replay` replays a bench trace from
 //! standard input, `reference check` runs the cases marked P, `reference demand`
-//! judges any program's answers to a script by demand 3.
+//! judges any program's answers to a script by demand 3, `reference formed` judges
+//! whether the images on standard input are those of well-formed banks.
 
 #![forbid(unsafe_code)]
 
 use reference::lines::{run_session, Mode};
-use reference::{cases, demand, trace};
+use reference::{cases, demand, formed, trace};
 use std::env;
 use std::io::{self, BufWriter};
 use std::path::Path;
@@ -65,13 +66,26 @@ fn run_demand(script: &Path, answers: &Path, mode: Mode) -> ExitCode {
     }
 }
 
+/// Exit status 0 if each line is an image, well formed or not; else 2.
+fn run_formed() -> ExitCode {
+    let mut output = BufWriter::new(io::stdout().lock());
+    match formed::run_formed(io::stdin().lock(), &mut output) {
+        Ok(()) => ExitCode::SUCCESS,
+        Err(error) => {
+            eprintln!("{error}");
+            ExitCode::from(2)
+        }
+    }
+}
+
 const USAGE: &str = "\
 usage: reference                             answers the session on standard input
        reference test                        the same, set-up and burst lines too
        reference replay                      replays the bench trace on standard input
        reference check                       runs the cases marked P
        reference demand SCRIPT ANSWERS       judges answers to a session by demand 3
-       reference demand SCRIPT ANSWERS test  the same, set-up and burst lines too";
+       reference demand SCRIPT ANSWERS test  the same, set-up and burst lines too
+       reference formed                      judges the images on standard input";
 
 fn main() -> ExitCode {
     let arguments: Vec<_> = env::args_os().skip(1).collect();
@@ -80,6 +94,7 @@ fn main() -> ExitCode {
         [word] if word == "test" => run_input(Mode::Test),
         [word] if word == "replay" => run_replay(),
         [word] if word == "check" => run_check(),
+        [word] if word == "formed" => run_formed(),
         [word, script, answers] if word == "demand" => {
             run_demand(Path::new(script), Path::new(answers), Mode::Session)
         }

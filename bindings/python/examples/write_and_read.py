@@ -27,19 +27,19 @@ def queue(model, command):
 
 
 def receipt(model):
-    """Reads a receipt."""
-    got = Receipt.of(model.read(Register.CMDR_FIFO).value)
+    """Reads a receipt. Without one, `done` raises."""
+    got = Receipt.of(model.read(Register.CMDR_FIFO).done().value)
     print('receipt: error %d, %d bytes, sync %d' % got)
     return got
 
 
 def main():
     model = Model.set_up(cmd=2, sdi=8)
-    model.write(Register.ENABLE, 0)
-    model.write(Register.DEV_CHAR, Device(SENSOR, attached=True).word)
+    model.write(Register.ENABLE, 0).done()
+    model.write(Register.DEV_CHAR, Device(SENSOR, attached=True).word).done()
 
     # The driver queues a write of two bytes and a read.
-    model.write(Register.SDO_FIFO, 0xa5c30000)
+    model.write(Register.SDO_FIFO, 0xa5c30000).done()
     queue(model, Command(SENSOR, length=2))
     queue(model, Command(SENSOR, length=4, read=True))
     # A third command without a look at the room: only the number says that it is lost.

@@ -5,6 +5,7 @@ For tools that look. What is read here is the model's own; nothing is worked out
 
 from __future__ import annotations
 
+import operator
 from collections.abc import Sequence
 from enum import IntEnum
 from typing import NamedTuple
@@ -14,6 +15,10 @@ from .registers import Irq
 
 WORDS = 200
 _RING_WORDS = 4
+# The place of a queue's level among its words.
+_LEVEL = 3
+# Levels, the mask, whether it is held, pending bits, the burst, the transfer.
+_MOVING = operator.itemgetter(*range(_LEVEL, 20, _RING_WORDS), 22, 26, *range(29, 39))
 _PENDING = (Irq.CMDR_PENDING, Irq.IBI_PENDING, Irq.DAA_PENDING)
 
 
@@ -87,7 +92,14 @@ class Image(tuple[int, ...]):
 
     @property
     def levels(self) -> Levels:
-        return Levels(*(ring.level for ring in self.rings))
+        return Levels(*self[_LEVEL:_RING_WORDS * len(Rings._fields):_RING_WORDS])
+
+    @property
+    def moving(self) -> tuple[int, ...]:
+        """The words of levels, mask, reset, pending bits, burst and transfer: images of one bank
+        that agree in them show the same of all these, and of IRQ_SOURCE."""
+        words: tuple[int, ...] = _MOVING(self)
+        return words
 
     @property
     def device_id(self) -> int:

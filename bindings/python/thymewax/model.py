@@ -3,6 +3,7 @@
 from __future__ import annotations
 
 import ctypes
+import struct
 import sys
 import threading
 from collections.abc import Sequence
@@ -39,19 +40,26 @@ class SetUp(NamedTuple):
 
 
 class Replayed(NamedTuple):
-    """What a replay tells: its number, how many records it did, the answer of the last."""
+    """What a replay tells: its number, how many records it did, the answer of the last. True exactly where the number is 0:
+    every record was right as a record; how the calls were answered is theirs."""
 
     number: int
     count: int
     last: Answer
 
+    def __bool__(self) -> bool:
+        return self.number == 0
+
 
 class Place(NamedTuple):
-    """Where a section lies in a trace, in bytes; 0 and 0 where asking for it is refused."""
+    """Where a section lies in a trace, in bytes; 0 and 0 where asking for it is refused, and then it is not true."""
 
     number: int
     start: int
     length: int
+
+    def __bool__(self) -> bool:
+        return self.number == 0
 
 
 def _word(number: int, name: str) -> int:
@@ -60,6 +68,11 @@ def _word(number: int, name: str) -> int:
 
 def _memory(words: Sequence[int], name: str) -> ctypes.Array[ctypes.c_uint32]:
     return (library.Word * len(words))(*(_word(word, name) for word in words))
+
+
+def _words(memory: ctypes.Array[ctypes.c_uint32]) -> tuple[int, ...]:
+    """A copy of a memory, much faster than word by word."""
+    return struct.unpack('=%dI' % len(memory), memory)
 
 
 def _letter(letter: str | int) -> int:
@@ -152,8 +165,9 @@ class Model:
         return self.step(TRIGGER)
 
     def replay(self, trace: bytes, section: int = 0, limit: int = sys.maxsize) -> Replayed:
-        """Makes the calls of a section of a trace, at most `limit` of them. The number is 0, 24 to
-        27, or 21; every call is lent an empty output."""
+        """Makes the calls of a section of a trace, at most `limit` of them. The number is 0 or 24
+        to 27; every call is lent an empty output. Where the words are those of no bank, each
+        record is answered 21."""
         file, told = memoryview(trace).tobytes(), _memory([0] * 3, 'told')
         numbers = _word(section, 'section'), fits(limit, 64, 'limit')
         with self._lock:
@@ -184,17 +198,17 @@ class Model:
     def image(self) -> Image:
         """The image as it is now."""
         with self._lock:
-            return Image(self._image)
+            return Image(_words(self._image))
 
     def store(self) -> tuple[int, ...]:
         """The store as it is now."""
         with self._lock:
-            return tuple(self._store)
+            return _words(self._store)
 
     def output(self) -> tuple[int, ...]:
         """The output as it is now: one word for each read of a burst that was finished."""
         with self._lock:
-            return tuple(self._output)
+            return _words(self._output)
 
     def levels(self) -> Levels:
         """The words in each queue."""

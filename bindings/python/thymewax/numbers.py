@@ -77,15 +77,21 @@ MEANINGS = (
 
 
 class Answer(NamedTuple):
-    """What a call gives. As text it is a session's line."""
+    """What a call gives. It is true exactly where the call was done: its number is 0. As text it is
+    a session's line."""
 
     value: int
     number: int
 
-    @property
-    def done(self) -> bool:
-        """Whether the call was done: its number is 0."""
+    def __bool__(self) -> bool:
         return self.number == Number.DONE
+
+    def done(self) -> Answer:
+        """The answer itself, where the call was done. Refused with its number where it was not, 19
+        too."""
+        if not self:
+            raise Refused(self.number)
+        return self
 
     @property
     def refused(self) -> bool:
@@ -101,8 +107,8 @@ class Answer(NamedTuple):
 
 
 class Refused(Exception):
-    """A set-up or a trace that is refused; `number` says why."""
+    """A set-up or a trace that is refused, or a call that was not done; `number` says why."""
 
     def __init__(self, number: int) -> None:
-        super().__init__('%d: %s' % (number, MEANINGS[number]))
+        super().__init__('%d: %s (%s)' % (number, MEANINGS[number], Number(number).name))
         self.number = number

@@ -208,10 +208,11 @@ impl Model {
 
     /// Makes the calls of a section of a trace, `limit` of them at most.
     ///
-    /// It leaves what the calls leave one by one; each is lent an empty output. A wrong trace
-    /// ([`Number::WRONG_MARK`], [`Number::WRONG_TABLE`], [`Number::NO_SUCH_SECTION`]) and an image
-    /// that is not well formed do nothing; at a wrong record ([`Number::WRONG_RECORD`]) those before
-    /// it are done. A record that the model refuses does not stop the replay.
+    /// It leaves what the calls leave one by one; each is lent an empty output. With a wrong trace
+    /// ([`Number::WRONG_MARK`], [`Number::WRONG_TABLE`], [`Number::NO_SUCH_SECTION`]) no record is
+    /// done; at a wrong record ([`Number::WRONG_RECORD`]) those before it are. A record that the
+    /// model refuses does not stop the replay, so with an image that is not well formed each is
+    /// answered [`Number::NOT_WELL_FORMED`].
     ///
     /// ```
     /// use thymewax::{registers, Model, Number, SetUp};

@@ -18,7 +18,7 @@ mod raw;
 use formed::well_formed;
 use images::good_images;
 use lcg::Lcg;
-use memory::{number_of, one_record, Memory, Numbers, CALLS, FILL, READ_VERSION};
+use memory::{number_of, Memory, Numbers, CALLS, READ_VERSION};
 use thymewax::IMAGE_WORDS;
 
 /// More that change a bank: a reset, a take from each queue, flags, a mode.
@@ -78,12 +78,7 @@ impl Had {
             for numbers in CALLS {
                 memory.refuses(numbers, 21);
             }
-            let mut after = memory.clone();
-            let mut told = [FILL; 3];
-            let file = one_record();
-            let number = raw::replay(&mut after.image, &mut after.store, &file, 0, 9, &mut told);
-            assert_eq!((number, told), (21, [0; 3]));
-            assert!(after == memory, "a refused replay left a mark");
+            memory.replays_nothing();
         }
     }
 

@@ -28,10 +28,8 @@ fn images_of_other_lengths() {
         }
         // A call that does not exist is 21 too: the image goes first.
         memory.refuses([0; 4], 21);
+        memory.replays_nothing();
         let mut after = memory.clone();
-        let mut told = [FILL; 3];
-        let number = raw::replay(&mut after.image, &mut after.store, &[], 0, 9, &mut told);
-        assert_eq!((number, told), (21, [0; 3]));
         for capacity in [4, 0] {
             let number = raw::set_up(&mut after.image, [capacity; 5], [0; 5], 0);
             assert_eq!(number, 21);
@@ -131,7 +129,8 @@ fn numbers_that_name_no_call() {
     memory.refuses([b'W' as u32, 0xffff, u32::MAX, 0], 4);
 }
 
-/// `told` and `place` take as many words as they have, and none past those that are named.
+/// `told` and `place` take as many words as they have, and none past those that are named. A refusal
+/// writes none of them.
 #[test]
 fn words_for_results_of_any_length() {
     let file = one_record();
@@ -145,7 +144,14 @@ fn words_for_results_of_any_length() {
         assert!(told.into_iter().eq(named.take(words)));
         assert_eq!(memory.step([b'R' as u32, 0x008, 0, 0]), 0x55);
 
-        for (section, number, place) in [(0, 0, [14, 12]), (1, 26, [0, 0])] {
+        for file in [&b""[..], b"I3TR", &file] {
+            let before = memory.clone();
+            let mut told = vec![FILL; words];
+            let number = raw::replay(&mut memory.image, &mut memory.store, file, 1, 9, &mut told);
+            assert!((24..27).contains(&number));
+            assert!(memory == before && told == vec![FILL; words]);
+        }
+        for (section, number, place) in [(0, 0, [14, 12]), (1, 26, [FILL, FILL])] {
             let mut told = vec![FILL; words];
             assert_eq!(raw::section(&file, section, &mut told), number);
             let named = place.into_iter().chain([FILL; 4]);

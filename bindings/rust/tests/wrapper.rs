@@ -283,8 +283,11 @@ fn parts_that_no_model_has_are_answered() {
             assert_eq!((answer.value, answer.number), (0, Number::NOT_WELL_FORMED));
         }
         let replayed = model.replay(&one_record(), 0, usize::MAX);
-        assert_eq!(replayed.number, Number::NOT_WELL_FORMED);
-        assert_eq!((replayed.count, replayed.last.number), (0, Number::DONE));
+        assert_eq!(replayed.number, Number::DONE);
+        assert_eq!(
+            (replayed.count, replayed.last.number),
+            (1, Number::NOT_WELL_FORMED)
+        );
         assert_eq!(model, before);
     }
 }
@@ -362,7 +365,9 @@ fn a_replay_stops_at_its_limit() {
         (&one_record(), 1, Number::NO_SUCH_SECTION),
         (&one_record(), u32::MAX, Number::NO_SUCH_SECTION),
     ] {
-        assert_eq!(model.replay(file, section, 1).number, number);
+        let refused = model.replay(file, section, 1);
+        assert_eq!((refused.number, refused.count), (number, 0));
+        assert_eq!((refused.last.value, refused.last.number), (0, Number::DONE));
         assert_eq!(
             thymewax::section(file, section).unwrap_err().number(),
             number

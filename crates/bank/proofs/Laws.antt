@@ -15,6 +15,7 @@ use Rattle.bank.specs.declared.Sizes.{Sizes}
 use Rattle.bank.specs.declared.SetUp.{SetUp}
 use Rattle.bank.specs.Queues.{Queues, ring, queuesIn, capsOf}
 use Rattle.bank.specs.SetUp.{sizeOk, capsOk, marksOk, countsOf, sizesOk, bankOf, refused, setUp, total}
+use Rattle.bank.specs.Ready.{Ready}
 use Rattle.bank.specs.Formed.{ringOk, queuesOk, regsOk, flagsOk, phaseOk, openOk, queuesClear, controlClear, resetOk, wellFormed}
 use Rattle.bank.proofs.Bools.{and-true, true-and, three, five, all-three, all-five}
 
@@ -50,7 +51,7 @@ ring-valid least r n h =
     let z = three (sizeOk least (r .cap .0)) (ltb (r .head) (r .cap .0)) (leb (r .level .0) (r .cap .0)) h in
     let y = and-true (leb least (r .cap .0)) (leb (r .cap .0) 1024) (z .0) in
     let a = leb-true least (r .cap .0) (y .0) in
-    record { cap-least = omega arith; cap-most = leb-true (r .cap .0) 1024 (y .1); head-below = ltb-true (r .head) (r .cap .0) (z .1); level-most = leb-true (r .level .0) (r .cap .0) (z .2) }
+    record { cap-least = omega arith; head-below = ltb-true (r .head) (r .cap .0) (z .1); level-most = leb-true (r .level .0) (r .cap .0) (z .2) }
 
 pub record RingsOk (q : Queues) : Type 0 where
   pub cmd : ringOk 2 (q .cmd) ≡ true
@@ -68,15 +69,6 @@ rings-of q h =
 pub rings-are : (q : Queues) → RingsOk q → queuesOk q ≡ true
 unfolding queuesOk
 rings-are q h = all-five (ringOk 2 (q .cmd)) (ringOk 1 (q .cmdr)) (ringOk 1 (q .sdo)) (ringOk 2 (q .sdi)) (ringOk 1 (q .ibi)) (h .cmd) (h .cmdr) (h .sdo) (h .sdi) (h .ibi)
-
--- five valid rings and a store of their total length
-pub record Ready (q : Queues) (s : List ℕ) : Type 0 where
-  pub cmd : Valid (q .cmd)
-  pub cmdr : Valid (q .cmdr)
-  pub sdo : Valid (q .sdo)
-  pub sdi : Valid (q .sdi)
-  pub ibi : Valid (q .ibi)
-  pub size : length s ≡ total (capsOf q)
 
 pub ready : (q : Queues) (s : List ℕ) → queuesOk q ≡ true → length s ≡ total (capsOf q) → Ready q s
 ready q s h n =

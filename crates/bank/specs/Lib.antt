@@ -4,3 +4,4 @@ pub mod Bursts
 pub mod Queues
 pub mod SetUp
 pub mod Formed
+pub mod Ready

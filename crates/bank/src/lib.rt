@@ -162,6 +162,13 @@ pub fn select(test: bool, yes: u32, no: u32) -> u32
     if test { yes } else { no }
 }
 
+// One of two answers, by a test.
+pub fn choose(test: bool, yes: bool, no: bool) -> bool
+    ensures { λ r. ⌜ r ≡ cond test yes no ⌝ }
+{
+    if test { yes } else { no }
+}
+
 // A sum over plain numbers: a proof about it need not look into a bank.
 fn sum_of_five(a: u32, b: u32, c: u32, d: u32, e: u32) -> usize
     ensures { λ n. ⌜ n ≡ a + b + c + d + e ⌝ }

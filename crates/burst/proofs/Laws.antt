@@ -4,14 +4,14 @@ use native.Mathlib.Nat.{mod-eq-of-lt}
 use native.Mathlib.Omega.{arith}
 use mathlib.Core.Path.{_≡_, refl, ap, _∙_}
 use mathlib.Core.Bool.{Bool, true, false, cond}
-use mathlib.Core.List.{List, []}
+use mathlib.Core.List.{List}
 use lib.Dec.{eqb, leb, ltb}
-use lib.ListN.{length, replicate, set}
+use lib.ListN.{length, set}
 use borrow.Author.Tests.{leb-true, leb-false, eqb-true, eqb-false, not-true, not-false}
 use Rattle.bank.specs.declared.State.{State}
 use Rattle.bank.specs.declared.Phase.the-variants.{Writing, Reading}
 use Rattle.bank.specs.Phases.{reading, transfer, limit}
-use Rattle.bank.specs.Bursts.{span, readsIn, bursting, gatheredBytes}
+use Rattle.bank.specs.Bursts.{span, bursting, gatheredBytes}
 use Rattle.bank.specs.Formed.{openOk}
 use Rattle.bank.proofs.Bools.{three}
 use Rattle.model.specs.View.{Tables, tables, View}
@@ -21,7 +21,6 @@ use Rattle.model.specs.Bursts.{short, dataWord, burstSend, burstReceive}
 use Rattle.model.proofs.Open.{BurstOk, burst-of, burst-parts, at-most-four}
 use Rattle.effect.specs.declared.Table.the-variants.{Output}
 use Rattle.effect.specs.Effects.{number, tablesBy, verdict}
-use Rattle.effect.specs.Seen.{Fronts, seen}
 use Rattle.effect.proofs.Laws.{cleared, served-as}
 
 -- ── The place of a burst ──────────────────────────────────────────────────────────────────────────────────────
@@ -53,14 +52,6 @@ module _ (st : State) (ws : List ℕ) (e : bursting (st .control) ≡ true) (h :
         rw (mod-eq-of-lt below-four) (eqb-true (t .part % 2 ^ (32 - 8 * t .moved .0)) 0 (rw r at z .2))
 
 -- ── Tests ─────────────────────────────────────────────────────────────────────────────────────────────────────
-pub short-is : (st : State) (a ws p o : List ℕ) (f : Fronts) (len : ℕ) → bursting (st .control) ≡ true → length o ≡ len → ltb len (readsIn (span (st .regs)) ws) ≡ short (seen st (tables a ws p o) f)
-unfolding short
-short-is st a ws p o f len e h = rw (e, h)
-
--- tables with the offload commands, and an output of so many words
-abbrev pub lent : List ℕ → ℕ → Tables
-lent ws len = tables [] ws [] (replicate len 0)
-
 pub sends : (s : View) → number (short s ⇒ 13 ∣ burstSend s) ≡ 0 → leb (transfer (s .phase) .length .0) (transfer (s .phase) .moved .0) ≡ false
 unfolding burstSend
 sends s e = cleared (short s ⇒ 13 ∣ burstSend s) refl e .1 .1 .1 .1 .1 .0

@@ -1,80 +1,27 @@
-// Offload bursts, as decisions: the trigger, and 01's events in an open burst. No queue is touched.
+// 01's events in an open burst, as decisions. No queue is touched.
 ghost use mathlib.Core.Path.{_≡_};
 ghost use mathlib.Core.Bool.{true, cond, _||_};
 ghost use mathlib.Core.List.{List};
 ghost use Prim.Native.Nat.{ℕ, _+_, _-_, _≤_};
-ghost use lib.Dec.{ltb};
 ghost use lib.ListN.{length, getD};
 ghost use Rattle.bank.specs.declared.Phase.the-variants.{Idle};
 ghost use Rattle.bank.specs.Bits.{bit, bits};
 ghost use Rattle.bank.specs.Phases.{broadcast};
-ghost use Rattle.bank.specs.Bursts.{span, readsIn, writesIn, bursting, place};
+ghost use Rattle.bank.specs.Bursts.{writesIn, bursting, place};
 ghost use Rattle.bank.specs.Formed.{openOk};
 ghost use Rattle.model.specs.Decision.{_⇒_∣_};
 ghost use Rattle.model.specs.Commands.{Single, kindOf, begun};
-ghost use Rattle.model.specs.Bursts.{standing, short, trigger, burstSend, burstReceive, burstFinish};
+ghost use Rattle.model.specs.Bursts.{short, burstSend, burstReceive, burstFinish};
 ghost use Rattle.model.specs.View.{tables};
 ghost use Rattle.effect.specs.Effects.{effectOf, verdict, number};
 ghost use Rattle.effect.specs.Seen.{Fronts, seen};
 use bank::Control;
 use bank::Phase;
-use bank::Regs;
 use bank::State;
 use bank::bursts;
 use bank::phases;
 use effect::Effect;
 use effect::Table;
-
-// Whether an output of so many words is shorter than the reads.
-pub fn is_lacking(g: Regs, commands: &[u32; 16], len: usize) -> bool
-    ensures { λ b. ⌜ b ≡ ltb len (readsIn (span g) (now (commands .entry))) ⌝ }
-{
-    len < bursts::reads_in(commands, bursts::span_of(g))
-}
-
-// The burst stands at another command, or at none.
-fn stand(c: Control, n: u8) -> Control
-    ensures { λ r. ⌜ r ≡ standing n c ⌝ }
-{
-    let mut next = c;
-    next.burst = n;
-    next
-}
-
-// ── Trigger ────────────────────────────────────────────────────────────────────────────────────────────────────
-
-// The number of a trigger, 0 where none of its tests holds.
-fn trigger_number(st: State, commands: &[u32; 16], len: usize) -> u32
-    ensures { λ n. ⌜ ((a p o : List ℕ) (f : Fronts) → length o ≡ len → n ≡ number (trigger (seen st (tables a (now (commands .entry)) p o) f))) ⌝ }
-{
-    let p = st.phase;
-    let at = phases::stage_of(p);
-    let span = bursts::span_of(st.regs);
-    let runs = bursts::all_carried(commands, span);
-    let n = bank::select(is_lacking(st.regs, commands, len), 13, 0);
-    let n = bank::select(!runs, 29, n);
-    let n = bank::select(span == 0, 28, n);
-    let n = bank::select(!bursts::is_offload(st.regs), 8, n);
-    let n = bank::select(!(at == phases::IDLE), 6, n);
-    bank::select(st.control.held, 5, n)
-}
-
-// A burst begins with the transfer of its first command.
-pub fn trigger(st: State, flags: &[u8; 128], commands: &[u32; 16], len: usize) -> Effect
-    ensures { λ e. ⌜ ((p o : List ℕ) (f : Fronts) → length o ≡ len → (let t = tables (now (flags .entry)) (now (commands .entry)) p o in effectOf e t ≡ verdict trigger (seen st t f))) ⌝ }
-{
-    let n = trigger_number(st, commands, len);
-    if n != 0 {
-        return effect::refuse(st, n);
-    }
-    let w = commands[0];
-    let at = (w / 2 % 128) as usize;
-    let p = transfer::private_phase(w, flags[at]);
-    let g = st.regs;
-    let c = stand(st.control, 1);
-    let o = effect::none();
-    effect::done(st, 0, 0, g, c, p, o)
-}
 
 // ── Bytes ──────────────────────────────────────────────────────────────────────────────────────────────────────
 
@@ -96,8 +43,8 @@ fn send_number(st: State, commands: &[u32; 16], len: usize) -> u32
     requires { ⌜ bursting (st .control) ≡ true ⌝ }
     ensures { λ n. ⌜ ((a p o : List ℕ) (f : Fronts) → length o ≡ len → (let v = seen st (tables a (now (commands .entry)) p o) f in n ≡ number (short v ⇒ 13 ∣ burstSend v))) ⌝ }
 {
-    let n = payload::byte_number(st, phases::WRITING, 0);
-    bank::select(is_lacking(st.regs, commands, len), 13, n)
+    let n = payload_bytes::byte_number(st, phases::WRITING, 0);
+    bank::select(trigger::is_lacking(st.regs, commands, len), 13, n)
 }
 
 // A byte sent: of the offload data word, as many places from its top as bytes have moved.
@@ -112,8 +59,8 @@ pub fn send(st: State, commands: &[u32; 16], payloads: &[u32; 16], len: usize) -
     let p = st.phase;
     let t = phases::transfer_of(p);
     let w = data_word(st.control, commands, payloads);
-    let byte = w / payload::weight(t.moved.0) % 256;
-    let next = payload::advance(t, 0);
+    let byte = w / payload_bytes::weight(t.moved.0) % 256;
+    let next = payload_bytes::advance(t, 0);
     let g = st.regs;
     let c = st.control;
     let o = effect::none();
@@ -125,8 +72,8 @@ fn receive_number(st: State, commands: &[u32; 16], len: usize) -> u32
     requires { ⌜ bursting (st .control) ≡ true ⌝ }
     ensures { λ n. ⌜ ((a p o : List ℕ) (f : Fronts) (byte : ℕ) → length o ≡ len → (let v = seen st (tables a (now (commands .entry)) p o) f in n ≡ number (short v ⇒ 13 ∣ burstReceive v byte))) ⌝ }
 {
-    let n = payload::byte_number(st, phases::READING, 0);
-    bank::select(is_lacking(st.regs, commands, len), 13, n)
+    let n = payload_bytes::byte_number(st, phases::READING, 0);
+    bank::select(trigger::is_lacking(st.regs, commands, len), 13, n)
 }
 
 // A byte received: it stays in the part word until the finish.
@@ -140,8 +87,8 @@ pub fn receive(st: State, commands: &[u32; 16], len: usize, byte: u8) -> Effect
     }
     let p = st.phase;
     let t = phases::transfer_of(p);
-    let w = payload::gathered(t.part, t.moved.0, byte);
-    let next = payload::advance(t, w);
+    let w = payload_bytes::gathered(t.part, t.moved.0, byte);
+    let next = payload_bytes::advance(t, w);
     let g = st.regs;
     let c = st.control;
     let o = effect::none();
@@ -157,11 +104,10 @@ fn finish_number(st: State, commands: &[u32; 16], len: usize, code: u8) -> u32
 {
     let p = st.phase;
     let at = phases::stage_of(p);
-    let ends = transfer::is_allowed(p, code);
+    let ends = endings::is_allowed(p, code);
     let n = bank::select(!ends, 14, 0);
-    let n = bank::select(at == phases::IDLE, 7, n);
-    let n = bank::select(st.control.held, 5, n);
-    bank::select(is_lacking(st.regs, commands, len), 13, n)
+    let n = effect::while_open(st.control.held, at, n);
+    bank::select(trigger::is_lacking(st.regs, commands, len), 13, n)
 }
 
 // Where the burst stands after the transfer of command number `n`, counted from 1.
@@ -180,7 +126,7 @@ fn next_phase(last: bool, flags: &[u8; 128], w: u32) -> Phase
         return Phase::Idle;
     }
     let at = (w / 2 % 128) as usize;
-    transfer::private_phase(w, flags[at])
+    start::private_phase(w, flags[at])
 }
 
 // The open transfer ends with a code: the word of a read goes to the output, and the next transfer opens.
@@ -196,12 +142,13 @@ pub fn finish(st: State, flags: &[u8; 128], commands: &[u32; 16], len: usize, co
     let t = phases::transfer_of(p);
     let reads = phases::stage_of(p) == phases::READING;
     let k = st.control.burst as usize;
-    let place = bursts::reads_in(commands, k - 1) as u32;
+    let passed = k - 1;
+    let place = bursts::reads_in(commands, passed) as u32;
     let last = bursts::span_of(st.regs) <= k;
     let w = commands[k];
     let next = next_phase(last, flags, w);
     let g = st.regs;
-    let c = stand(st.control, after(last, st.control.burst));
+    let c = trigger::stand(st.control, after(last, st.control.burst));
     let o = effect::none();
     let d = effect::table_if(reads, Table::Output(place, t.part));
     effect::done_with(st, 0, 0, g, c, next, o, d)

@@ -4,61 +4,16 @@
 ghost use mathlib.Core.Path.{_≡_};
 ghost use Rattle.model.specs.declared.Call.the-variants.{Read, Write, Start, Send, Receive, Finish, Interrupt, Request, Take, Trigger};
 ghost use Rattle.model.specs.View.{tables};
-ghost use Rattle.model.specs.Bursts.{decide};
 ghost use Rattle.model.specs.Engine.{step};
 ghost use Rattle.model.specs.Rings.{rings};
 ghost use Prim.Native.Nat.{ℕ};
 ghost use mathlib.Core.List.{List, []};
-ghost use lib.ListN.{length};
-ghost use Rattle.answer.specs.Given.{bankWith, controller, view, given, givenOut, decided, Open};
+ghost use Rattle.answer.specs.Given.{controller, givenOut};
 ghost use Rattle.controller.specs.Outs.{nextOut};
-ghost use Rattle.faults.specs.Faults.{faultNumber};
 use answer::Next;
 use answer::Out;
 use bank::Bank;
-use bank::Heads;
-use bank::State;
 use model::Call;
-
-// Any call behind the two tests, on a state, its heads and its lent tables: decided, then settled. A layer, no interface.
-fn serve(
-    st: State,
-    h: Heads,
-    flags: &mut [u8; 128],
-    commands: &mut [u32; 16],
-    payloads: &mut [u32; 16],
-    store: &mut [u32],
-    output: &mut [u32],
-    call: Call,
-) -> Next
-    requires { ⌜ Open st h (now commands) (now store) ⌝ }
-    ensures { λ y. ⌜ given y (tables (now (flags .exit)) (now (commands .exit)) (now (payloads .exit)) (now (output .exit))) (now (store .exit)) ≡ (let t = tables (now (flags .entry)) (now (commands .entry)) (now (payloads .entry)) (now (output .entry)) in decided st h t (now (store .entry)) (decide (view st h t (now (store .entry))) call)) ⌝ }
-{
-    let e = decide::decide(st, h, flags, commands, payloads, store, output.len(), call);
-    settle::settle(st, h, flags, commands, payloads, store, output, e)
-}
-
-// Any call on a state, its heads and its lent tables, where the number of the two tests is known: a layer, no interface.
-// It is for replays: no call changes what the two tests say.
-pub fn step_parts(
-    st: State,
-    h: Heads,
-    flags: &mut [u8; 128],
-    commands: &mut [u32; 16],
-    payloads: &mut [u32; 16],
-    store: &mut [u32],
-    output: &mut [u32],
-    fault: u32,
-    call: Call,
-) -> Next
-    requires { ⌜ fault ≡ faultNumber (bankWith st h (tables (now flags) (now commands) (now payloads) (now output))) (length (now store)) ⌝ }
-    ensures { λ y. ⌜ given y (tables (now (flags .exit)) (now (commands .exit)) (now (payloads .exit)) (now (output .exit))) (now (store .exit)) ≡ step rings (controller (bankWith st h (tables (now (flags .entry)) (now (commands .entry)) (now (payloads .entry)) (now (output .entry)))) (now (store .entry)) (now (output .entry))) call ⌝ }
-{
-    if fault != 0 {
-        return answer::refuse(st, h, fault);
-    }
-    serve(st, h, flags, commands, payloads, store, output, call)
-}
 
 // A bank of a state, its heads and its tables.
 fn with_tables(y: Next, flags: [u8; 128], commands: [u32; 16], payloads: [u32; 16]) -> Out
@@ -88,7 +43,7 @@ pub fn step(b: Bank, store: &mut [u32], output: &mut [u32], call: Call) -> Out
     let mut f = b.flags;
     let mut c = b.commands;
     let mut p = b.payloads;
-    let y = step_parts(
+    let y = serve::step_parts(
         b.state,
         b.heads,
         &mut f,

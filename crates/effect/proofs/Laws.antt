@@ -5,6 +5,7 @@ use mathlib.Core.Bool.{Bool, true, false, cond, not, _&&_, false≢true}
 use mathlib.Core.List.{[]}
 use mathlib.Core.Option.{Option, none, some}
 use lib.Dec.{eqb}
+use borrow.Author.Tests.{eqb-true, eqb-false}
 use Rattle.bank.proofs.Bools.{and-true}
 use Rattle.model.specs.declared.Call.{Call}
 use Rattle.model.specs.Bursts.{decide}
@@ -41,6 +42,14 @@ module _ (d : View → Decision) (s : View) where
   pub served-as : refusals (d s) ≡ true → number (d s) ≡ 0 → effect (d s) ≡ verdict d s
   unfolding verdict
   served-as r h = sym (ap (λ (k : Option ℕ). verdictBy k s (effect (d s))) (none-of (d s) r h))
+
+  -- a write that is made where its number is 0: y n made is what code gives
+  pub made-row : (y : ℕ → Bool → Effect) (n : ℕ) → refusals (d s) ≡ true → n ≡ number (d s) → y 0 true ≡ effect (d s) → ((m : ℕ) → y m false ≡ (unchanged s withNumber m)) → y n (eqb n 0) ≡ verdict d s
+  made-row y n k e made dropped = go (eqb n 0) refl
+    where
+      go : (b : Bool) → eqb n 0 ≡ b → y n b ≡ verdict d s
+      go true h = let z = eqb-true n 0 h in ap (λ (m : ℕ). y m true) z ∙ made ∙ served-as k (sym e ∙ z)
+      go false h = dropped n ∙ refused-as n (eqb-false n 0 h) e
 
 -- a decision that a view has already been put to
 abbrev settled : Decision → View → Effect

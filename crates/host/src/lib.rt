@@ -1,10 +1,8 @@
 // The archive for hosts in C, Rust and Python: exported calls on numbers and lent memory. A host keeps the bank as an
 // image; a call decodes it, makes the call and encodes the bank again. Every call takes any input.
 ghost use mathlib.Core.Path.{_≡_};
-ghost use lib.ListN.{length};
-ghost use Rattle.trace_model.specs.Format.{lookNumber, sectionStart, section};
 ghost use Rattle.image_model.specs.Image.{size};
-ghost use Rattle.host_model.specs.Host.{setUpIn, callOf, stepIn, packedOf, replayIn, toldIn, placedIn};
+ghost use Rattle.host_model.specs.Host.{setUpIn, callOf, stepIn, packedOf, replayIn, sectionIn};
 use bank::Sizes;
 
 // How many words an image has.
@@ -83,8 +81,9 @@ pub extern "C" fn thymewax_step(
     host_calls::replay_one(b, image, store, output, bytes)
 }
 
-// Replay of a section of a trace, at most `limit` of its records. Gives its number; `told` takes how many records it did,
-// and value and number of the last one's answer.
+// Replay of a section of a trace, at most `limit` of its records, on the bank that the image says; on words that are no image
+// each record is answered 21. Gives its number; at 0 and 27 `told` takes how many records it did, and value and number of
+// the last one's answer.
 #[no_mangle]
 pub extern "C" fn thymewax_replay(
     image: &mut [u32],
@@ -94,30 +93,23 @@ pub extern "C" fn thymewax_replay(
     limit: usize,
     told: &mut [u32],
 ) -> u32
-    ensures { λ n. ⌜ (let h = replayIn (now (file .entry)) i limit (now (image .entry)) (now (store .entry)) in (n ≡ h .told .number) × (now (image .exit) ≡ h .image) × (now (store .exit) ≡ h .store) × (now (told .exit) ≡ toldIn (h .told) (now (told .entry)))) ⌝ }
+    ensures { λ n. ⌜ (let h = replayIn (now (file .entry)) i limit (now (image .entry)) (now (store .entry)) (now (told .entry)) in (n ≡ h .number) × (now (image .exit) ≡ h .image) × (now (store .exit) ≡ h .store) × (now (told .exit) ≡ h .told)) ⌝ }
 {
     if image.len() != image::SIZE {
-        return host_parts::untold(told);
+        // These words are no image either.
+        let mut none = [0u32; 200];
+        return host_replay::replay(&mut none, store, file, i, limit, told);
     }
-    let b = image::decode(image);
-    if !image::is_encoded(image, b) {
-        return host_parts::untold(told);
-    }
-    if !formed::well_formed(b) {
-        return host_parts::untold(told);
-    }
-    let r = playback::replay(b, store, file, i, limit);
-    image::encode(r.bank, image);
-    host_parts::tell(r.told, told)
+    host_replay::replay(image, store, file, i, limit, told)
 }
 
-// Where a section of a trace lies. Gives 0, 24, 25 or 26; `place` takes its first byte and its length in bytes.
+// Where a section of a trace lies. Gives 0, 24, 25 or 26; at 0 `place` takes its first byte and its length in bytes.
 #[no_mangle]
 pub extern "C" fn thymewax_section(file: &[u8], i: u32, place: &mut [u32]) -> u32
-    ensures { λ n. ⌜ (n ≡ lookNumber (now (file .entry)) i) × (now (place .exit) ≡ placedIn (sectionStart (now (file .entry)) i) (length (section (now (file .entry)) i)) (now (place .entry))) ⌝ }
+    ensures { λ n. ⌜ (let h = sectionIn (now (file .entry)) i (now (place .entry)) in (n ≡ h .number) × (now (place .exit) ≡ h .place)) ⌝ }
 {
+    let number = trace::look_up(file, i);
     let start = trace::section_start(file, i);
     let records = trace::section(file, i);
-    host_parts::tell_place(start, records.len(), place);
-    trace::look_up(file, i)
+    host_parts::tell_place(number, start, records.len(), place)
 }

@@ -63,7 +63,7 @@ fn settled(b: Bank, e: Effect) -> Out
 }
 
 // The trigger on a bank. It touches no queue and no table, and of store and output it asks the lengths alone: so its
-// decision needs no settling, and the archive's one loop stays the only caller of `controller::step_parts`.
+// decision needs no settling, and the archive's one loop stays the only caller of `serve::step_parts`.
 fn triggered(b: Bank, store: usize, output: usize) -> Out
     ensures { λ y. ⌜ ((s o : List ℕ) → length s ≡ store → length o ≡ output → givenOut y s o ≡ step rings (controller b s o) Trigger) ⌝ }
 {
@@ -74,11 +74,11 @@ fn triggered(b: Bank, store: usize, output: usize) -> Out
     let f = b.flags;
     let c = b.commands;
     if bursts::is_bursting(b.state.control) {
-        let lacks = burst::is_lacking(b.state.regs, &c, output);
+        let lacks = trigger::is_lacking(b.state.regs, &c, output);
         let barred = offload::bar(b.state, lacks, 6);
         return settled(b, barred);
     }
-    let e = burst::trigger(b.state, &f, &c, output);
+    let e = trigger::trigger(b.state, &f, &c, output);
     settled(b, e)
 }
 

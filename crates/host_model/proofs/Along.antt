@@ -5,7 +5,8 @@ use mathlib.Core.Bool.{true}
 use mathlib.Core.List.{List, [], _∷_}
 use lib.Dec.{leb}
 use Rattle.bank.specs.declared.Bank.{Bank}
-use Rattle.bank.specs.SetUp.{sizesOk, bankOf}
+use Rattle.bank.specs.declared.Sizes.{Sizes}
+use Rattle.bank.specs.SetUp.{sizesOk, bankOf, setUp}
 use Rattle.bank.specs.Formed.{wellFormed}
 use Rattle.bank.proofs.Bools.{and-true}
 use Rattle.bank.proofs.Laws.{in-range, bank-is}
@@ -25,7 +26,7 @@ use Rattle.host_model.proofs.Hosting.{set-up-done}
 use Rattle.host_model.proofs.Types.{step-typed}
 
 -- one call on the image of a bank
-on-image : (b : Bank) (st o : List ℕ) (c : Call) → Typed b → wellFormed b ≡ true → stepIn (Named c) (imageOf b) st o ≡ hosted (step rings (controller b st o) c)
+pub on-image : (b : Bank) (st o : List ℕ) (c : Call) → Typed b → wellFormed b ≡ true → stepIn (Named c) (imageOf b) st o ≡ hosted (step rings (controller b st o) c)
 unfolding stepIn EncodedIsRead
 on-image b st o c t w =
     let k = encoded-is-read b (typed-is b t) w in
@@ -44,10 +45,15 @@ pub hosted-along : HostedAlong
 unfolding HostedAlong
 hosted-along l cs t w = along cs l (typed-of (l .bank) t) w
 
+-- the bank of a set-up answered 0
+pub fresh-typed : (caps marks : Sizes) (id : ℕ) → setUp caps marks id .answer .number ≡ 0 → Typed (setUp caps marks id .bank)
+fresh-typed caps marks id z =
+    let i = and-true (leb id 255) (sizesOk caps marks) (in-range caps marks id z) .0 in
+    let t : Typed (bankOf caps marks true id) = record { id = i; mask = refl; sync = refl; ibisync = refl; burst = refl; flags = refl; commands = refl; payloads = refl } in
+    subst Typed (sym (bank-is caps marks id z)) t
+
 pub hosted-from-set-up : HostedFromSetUp
 unfolding HostedFromSetUp SetUpWellFormed
 hosted-from-set-up ws caps marks id store cs n z =
-    let i = and-true (leb id 255) (sizesOk caps marks) (in-range caps marks id z) .0 in
-    let t : Typed (bankOf caps marks true id) = record { id = i; mask = refl; sync = refl; ibisync = refl; burst = refl; flags = refl; commands = refl; payloads = refl } in
     ap (λ (f : Fresh). hostRan (f .image) store cs) (sym (set-up-done ws caps marks id n z))
-    ∙ along cs (fresh caps marks id store) (subst Typed (sym (bank-is caps marks id z)) t) (set-up-well-formed caps marks id z)
+    ∙ along cs (fresh caps marks id store) (fresh-typed caps marks id z) (set-up-well-formed caps marks id z)

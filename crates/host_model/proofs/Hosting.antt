@@ -1,10 +1,10 @@
 -- What a host's call is, by the tests that the code makes on an image.
-use Prim.Native.Nat.{ℕ}
+use Prim.Native.Nat.{ℕ, _%_, _^_}
 use native.Mathlib.Omega.{arith}
 use mathlib.Core.Path.{_≡_, refl, ap, sym, _∙_}
 use mathlib.Core.Bool.{Bool, true, false, cond}
-use mathlib.Core.List.{List, []}
-use lib.ListN.{length}
+use mathlib.Core.List.{List}
+use lib.ListN.{length, set}
 use borrow.Author.Tests.{eq-eqb, ne-eqb}
 use Rattle.bank.specs.declared.Sizes.{Sizes}
 use Rattle.bank.specs.SetUp.{setUp}
@@ -16,11 +16,13 @@ use Rattle.answer.specs.Given.{controller}
 use Rattle.faults.proofs.Guards.{refuses}
 use Rattle.letters.specs.declared.Parsed.{Parsed}
 use Rattle.letters.specs.declared.Parsed.the-variants.{Named, Skipped}
+use Rattle.trace_model.specs.Format.{lookNumber, sectionStart, section}
 use Rattle.record_model.specs.Record.{onward, each, recordAt}
-use Rattle.playback_model.specs.Replay.{Replay, begun, did, wrong, played, replayOf}
+use Rattle.playback_model.specs.declared.Told.{Told}
+use Rattle.playback_model.specs.Replay.{Replay, begun, did, wrong, played}
 use Rattle.image_model.specs.Image.{imageOf, bankIn, encoded, isImage}
 use Rattle.image_model.proofs.Words.{same-eq}
-use Rattle.host_model.specs.Host.{setUpIn, Hosted, hosted, refusal, stepIn, leftBy, refusedReplay, replayIn}
+use Rattle.host_model.specs.Host.{setUpIn, Hosted, hosted, refusal, stepIn, tells, toldIn, placedIn, sectionIn}
 
 -- ── Words that are no image ───────────────────────────────────────────────────────────────────────────────────
 pub wrong-size : (ws : List ℕ) → (length ws ≡ 200 → ⊥) → isImage ws ≡ false
@@ -98,12 +100,22 @@ module _ (ws st o : List ℕ) where
     one-wrong (Named c) r e z = absurd (z (ap (λ (x : Replay). x .told .number) e))
     one-wrong Skipped r e z = (ap (λ (x : Replay). x .left) e, no-call)
 
--- ── Replay ────────────────────────────────────────────────────────────────────────────────────────────────────
-module _ (file : List ℕ) (i limit : ℕ) (ws st : List ℕ) where
-  pub no-replay : isImage ws ≡ false → refusedReplay 21 ws st ≡ replayIn file i limit ws st
-  unfolding replayIn
-  no-replay e = rw e refl
+-- ── What is told, in lent words ───────────────────────────────────────────────────────────────────────────────
+module _ (t : Told) (ts : List ℕ) where
+  pub untold : tells (t .number) ≡ false → ts ≡ toldIn t ts
+  untold e = rw e
 
-  pub one-replay : isImage ws ≡ true → leftBy (replayOf file i limit (controller (bankIn ws) st [])) ≡ replayIn file i limit ws st
-  unfolding replayIn
-  one-replay e = rw e refl
+  pub is-told : tells (t .number) ≡ true → set (set (set ts 0 (t .count % 2 ^ 32)) 1 (t .answer .value)) 2 (t .answer .number) ≡ toldIn t ts
+  is-told e = rw e
+
+module _ (number start bytes : ℕ) (ws : List ℕ) where
+  pub unplaced : (number ≡ 0 → ⊥) → ws ≡ placedIn number start bytes ws
+  unplaced h = rw (ne-eqb number 0 h)
+
+  pub is-placed : number ≡ 0 → set (set ws 0 start) 1 (bytes % 2 ^ 32) ≡ placedIn number start bytes ws
+  is-placed e = rw (eq-eqb number 0 e)
+
+pub one-section : (file : List ℕ) (i : ℕ) (ws : List ℕ) (number start : ℕ) (records : List ℕ) → number ≡ lookNumber file i → start ≡ sectionStart file i → records ≡ section file i
+    → record { number = number; place = placedIn number start (length records) ws } ≡ sectionIn file i ws
+unfolding sectionIn
+one-section file i ws number start records e f g = λ j. record { number = e j; place = placedIn (e j) (f j) (length (g j)) ws }

@@ -1,12 +1,14 @@
 -- The laws of a host's calls.
-use Prim.Native.Nat.{ℕ, zero, suc, _+_, _/_, _≤_}
+use Prim.Native.Nat.{ℕ, zero, suc, _+_, _/_, _%_, _^_, _≤_}
 use native.Mathlib.Omega.{arith}
+use native.Mathlib.Nat.{mod-eq-of-lt}
 use mathlib.Core.Path.{_≡_, refl, ap, sym, _∙_}
 use mathlib.Core.Bool.{Bool, true, false, cond}
-use mathlib.Core.List.{List, []}
-use lib.Dec.{ltb}
+use mathlib.Core.List.{List, [], _∷_}
+use lib.Dec.{eqb, ltb}
 use lib.ListN.{length}
-use borrow.Author.Tests.{ltb-true}
+use borrow.Author.Tests.{ltb-true, eq-eqb, ne-eqb}
+use Rattle.bank.specs.Formed.{queuesOk, wellFormed}
 use Rattle.model.specs.declared.Call.{Call}
 use Rattle.model.specs.declared.Call.the-variants.{Read, Write, Start, Send, Receive, Finish, Interrupt, Request, Take, Trigger}
 use Rattle.model.specs.Engine.{step}
@@ -17,21 +19,25 @@ use Rattle.answer.specs.Given.{controller}
 use Rattle.letters.specs.declared.Parsed.{Parsed}
 use Rattle.letters.specs.declared.Parsed.the-variants.{Named, Skipped}
 use Rattle.letters.specs.Forms.{formOf}
-use Rattle.trace_model.specs.Format.{lookNumber, section}
-use Rattle.trace_model.proofs.Sections.{refused, found, handed-length, within}
+use Rattle.trace_model.specs.Format.{lookNumber, sectionStart, section}
+use Rattle.trace_model.proofs.Sections.{refused, found, handed, handed-length, within}
 use Rattle.record_model.specs.Record as records
 use Rattle.record_model.specs.Record.{rec, namedIn, recordAt, each, onward}
 use Rattle.record_model.specs.Writer.{recordOf}
+use Rattle.record_model.specs.Done.{anyWrong}
 use Rattle.record_model.proofs.Writing.{call-named}
 use Rattle.playback_model.specs.Replay.{Replay, begun, did, wrong, replayOf}
+use Rattle.playback_model.specs.Done.{wanted, EveryReplay, all21, IllFormedReplay}
 use Rattle.playback_model.proofs.Laws.{refuses, plays}
+use Rattle.playback_model.proofs.Done.{every-replay}
+use Rattle.playback_model.proofs.IllFormed.{ill-formed-replay}
 use Rattle.image_model.specs.Image.{imageOf, bankIn, isImage}
 use Rattle.image_model.specs.Laws.{ImageIsEncoded}
 use Rattle.image_model.proofs.Laws.{image-is-encoded}
-use Rattle.host_model.specs.Host.{triggers, hosted, refusal, stepIn, leftBy, refusedReplay, replayIn}
-use Rattle.host_model.specs.Laws.{CalledIsNamed, NoImageIsRefused, RefusedStays, RefusedReplayStays, NothingCut}
+use Rattle.host_model.specs.Host.{triggers, hosted, refusal, stepIn, Replayed, bankFor, imageAfter, tells, toldIn, leftBy, replayIn, sectionIn}
+use Rattle.host_model.specs.Laws.{CalledIsNamed, NoImageIsRefused, RefusedStays, RefusedReplayStays, RefusedSectionStays, DoneIsTold, FoundIsPlaced, NothingCut}
 use Rattle.host_model.proofs.Calling.{recorded, triggered}
-use Rattle.host_model.proofs.Hosting.{no-image, no-replay}
+use Rattle.host_model.proofs.Hosting.{no-image, untold, is-told, is-placed}
 
 -- ── Every call has its numbers ────────────────────────────────────────────────────────────────────────────────
 -- no letter is G
@@ -65,9 +71,29 @@ unfolding CalledIsNamed
 called-is-named = (λ c e. let r = recordOf c in sym (recorded (r .letter) (r .offset) (r .first) (r .second) (not-trigger c)) ∙ as-record c ∙ call-named c e, sym (triggered 0x47 0 0 0 refl))
 
 -- ── Words that are no image ───────────────────────────────────────────────────────────────────────────────────
+none-formed : (ws : List ℕ) → isImage ws ≡ false → wellFormed (bankFor ws) ≡ false
+unfolding wellFormed queuesOk
+none-formed ws e = rw e
+
+-- an image says a bank with its words, and other words stay
+same-image : (ws : List ℕ) → imageAfter ws (bankFor ws) ≡ ws
+unfolding ImageIsEncoded
+same-image ws = go (isImage ws) refl
+  where
+    go : (b : Bool) → isImage ws ≡ b → imageAfter ws (bankFor ws) ≡ ws
+    go true e = rw e (image-is-encoded ws e .1)
+    go false e = rw e
+
 pub no-image-is-refused : NoImageIsRefused
-unfolding NoImageIsRefused
-no-image-is-refused ws e = (λ p st o. sym (no-image ws st o p e), λ file i limit st. sym (no-replay file i limit ws st e))
+unfolding NoImageIsRefused replayIn IllFormedReplay
+no-image-is-refused ws e = (
+  λ p st o. sym (no-image ws st o p e),
+  λ file i limit st ts.
+      let l = controller (bankFor ws) st [] in
+      let t = all21 file i limit in
+      ap (leftBy ws ts) (ill-formed-replay file i limit l (none-formed ws e))
+      ∙ ap (λ (x : List ℕ). record { number = t .number; image = x; store = st; told = toldIn t ts }) (same-image ws),
+)
 
 -- ── A refusal changes nothing ─────────────────────────────────────────────────────────────────────────────────
 stays : (ws st o : List ℕ) (c : Call) → imageOf (bankIn ws) ≡ ws → (let h = hosted (step rings (controller (bankIn ws) st o) c) in let n = h .answer .number in (n ≡ 0 → ⊥) → (n ≡ 19 → ⊥) → h ≡ refusal n ws st o)
@@ -88,13 +114,39 @@ refused-stays p ws st o = go (isImage ws) refl p
     go true e Skipped = rw e (λ z t. refl)
     go true e (Named c) = rw e (stays ws st o c (image-is-encoded ws e .1))
 
+-- a look-up that is not refused is told by 0 or 27
+told-done : (w : Bool) (n m : ℕ) → n ≡ 0 → m ≡ cond (eqb n 0) (cond w 27 0) n → (m ≡ 0 → ⊥) → (m ≡ 27 → ⊥) → ⊥
+told-done w n m e f g h = go w (f ∙ ap (λ (b : Bool). cond b (cond w 27 0) n) (eq-eqb n 0 e))
+  where
+    go : (w : Bool) → m ≡ cond w 27 0 → ⊥
+    go true f = h f
+    go false f = g f
+
 pub refused-replay-stays : RefusedReplayStays
-unfolding RefusedReplayStays replayIn ImageIsEncoded
-refused-replay-stays file i limit ws st e z =
-    let l = controller (bankIn ws) st [] in
-    rw e
-    (ap leftBy (sym (refuses file i limit l (lookNumber file i) refl z))
-    ∙ ap (λ (is : List ℕ). refusedReplay (lookNumber file i) is st) (image-is-encoded ws e .1))
+unfolding RefusedReplayStays replayIn EveryReplay
+refused-replay-stays file i limit ws st ts z w = go (lookNumber file i) refl
+  where
+    l : Controller
+    l = controller (bankFor ws) st []
+
+    n : ℕ
+    n = lookNumber file i
+
+    r : Replayed
+    r = replayIn file i limit ws st ts
+
+    go : (x : ℕ) → n ≡ x → r ≡ record { number = r .number; image = ws; store = st; told = ts }
+    go zero e = absurd (told-done (anyWrong (wanted file i limit)) n (r .number) e (ap (λ (x : Replay). x .told .number) (every-replay file i limit l)) z w)
+    go (suc x) e =
+        let h : n ≡ 0 → ⊥ = λ k. omega (arith, e, k) in
+        let b : begun n l ≡ replayOf file i limit l = refuses file i limit l n refl h in
+        let m : n ≡ r .number = ap (λ (x : Replay). x .told .number) b in
+        let k : tells n ≡ false = rw (ne-eqb n 0 h, ne-eqb n 27 (λ y. w (sym m ∙ y))) in
+        ap (leftBy ws ts) (sym b) ∙ (λ j. record { number = m j; image = same-image ws j; store = st; told = sym (untold (begun n l .told) ts k) j })
+
+pub refused-section-stays : RefusedSectionStays
+unfolding RefusedSectionStays sectionIn
+refused-section-stays file i ws h = rw (ne-eqb (lookNumber file i) 0 h)
 
 -- ── Nothing told is cut ───────────────────────────────────────────────────────────────────────────────────────
 short : (file : List ℕ) (i : ℕ) → length (section file i) ≤ 0x1000000
@@ -144,3 +196,26 @@ few-done file i limit l = go (lookNumber file i) refl
 pub nothing-cut : NothingCut
 unfolding NothingCut
 nothing-cut file i limit l = (let s = short file i in omega (arith, s), let k = few-done file i limit l in omega (arith, k))
+
+-- ── What is done is told ──────────────────────────────────────────────────────────────────────────────────────
+tells-done : (w : Bool) (n : ℕ) → n ≡ 0 → tells (cond (eqb n 0) (cond w 27 0) n) ≡ true
+tells-done true n e = rw (eq-eqb n 0 e)
+tells-done false n e = rw (eq-eqb n 0 e)
+
+pub done-is-told : DoneIsTold
+unfolding DoneIsTold replayIn EveryReplay
+done-is-told file i limit ws st ts a b c e =
+    let l = controller (bankFor ws) st [] in
+    let t = replayOf file i limit l .told in
+    let w : tells (t .number) ≡ true = ap (λ (r : Replay). tells (r .told .number)) (every-replay file i limit l) ∙ tells-done (anyWrong (wanted file i limit)) (lookNumber file i) e in
+    let k = few-done file i limit l in
+    let n : t .count % 2 ^ 32 ≡ t .count = mod-eq-of-lt (omega (arith, k)) in
+    sym (is-told t (a ∷ b ∷ c ∷ ts) w) ∙ ap (λ (n : ℕ). n ∷ t .answer .value ∷ t .answer .number ∷ ts) n
+
+pub found-is-placed : FoundIsPlaced
+unfolding FoundIsPlaced sectionIn
+found-is-placed file i ws a b e =
+    let s = short file i in
+    let n : length (section file i) % 2 ^ 32 ≡ length (section file i) = mod-eq-of-lt (omega (arith, s)) in
+    sym (is-placed (lookNumber file i) (sectionStart file i) (length (section file i)) (a ∷ b ∷ ws) e)
+    ∙ (λ j. sym (handed file i e .1) j ∷ (n ∙ handed-length file i e) j ∷ ws)

@@ -3,3 +3,5 @@ pub mod Hosting
 pub mod Laws
 pub mod Types
 pub mod Along
+pub mod Replaying
+pub mod Demand

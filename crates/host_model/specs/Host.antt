@@ -1,12 +1,13 @@
 -- The calls of a host: on a bank that is kept as an image, and a store, an output and a trace that are lent.
 use Prim.Native.Nat.{ℕ, _+_, _*_, _%_, _^_}
-use mathlib.Core.Bool.{Bool, cond, _&&_}
+use mathlib.Core.Bool.{Bool, cond, _&&_, _||_}
 use mathlib.Core.List.{List, []}
 use lib.Dec.{eqb}
 use lib.ListN.{length, set}
 use Rattle.bank.specs.declared.Answer.{Answer}
+use Rattle.bank.specs.declared.Bank.{Bank}
 use Rattle.bank.specs.declared.Sizes.{Sizes}
-use Rattle.bank.specs.SetUp.{setUp}
+use Rattle.bank.specs.SetUp.{refused, setUp}
 use Rattle.model.specs.declared.Call.the-variants.{Trigger}
 use Rattle.model.specs.Engine.{Step, step}
 use Rattle.model.specs.Rings.{Controller, rings}
@@ -14,6 +15,7 @@ use Rattle.answer.specs.Given.{controller}
 use Rattle.letters.specs.declared.Parsed.{Parsed}
 use Rattle.letters.specs.declared.Parsed.the-variants.{Named, Skipped}
 use Rattle.letters.specs.Forms.{formOf}
+use Rattle.trace_model.specs.Format.{lookNumber, sectionStart, section}
 use Rattle.record_model.specs.Record.{rec, namedIn}
 use Rattle.playback_model.specs.declared.Told.{Told}
 use Rattle.playback_model.specs.Replay.{Replay, replayOf}
@@ -65,27 +67,46 @@ abbrev pub packedOf : Answer → ℕ
 packedOf a = a .value + 2 ^ 32 * a .number
 
 -- ── Replay of a section of a trace ────────────────────────────────────────────────────────────────────────────
--- what it tells, and what it left
+-- its number, and what it left; `told` is lent for what it tells
 pub record Replayed : Type 0 where
-  pub told : Told
+  pub number : ℕ
   pub image : List ℕ
   pub store : List ℕ
+  pub told : List ℕ
 
-abbrev pub leftBy : Replay → Replayed
-leftBy r = record { told = r .told; image = imageOf (r .left .bank); store = r .left .store }
+-- on the bank that an image says. Words that are no image stand for the bank of a refused set-up: it is not well formed, so each record
+-- is answered 21, as `stepIn` answers its call
+abbrev pub bankFor : List ℕ → Bank
+bankFor ws = cond (isImage ws) (bankIn ws) (refused .bank)
 
--- no record was done
-abbrev pub refusedReplay : ℕ → List ℕ → List ℕ → Replayed
-refusedReplay n ws st = record { told = record { number = n; count = 0; answer = record { value = 0; number = 0 } }; image = ws; store = st }
+-- an image takes the bank that the records left, other words stay
+abbrev pub imageAfter : List ℕ → Bank → List ℕ
+imageAfter ws b = cond (isImage ws) (imageOf b) ws
 
--- on the bank that the image says; 21 before all numbers of the trace
-unfoldable pub replayIn : List ℕ → ℕ → ℕ → List ℕ → List ℕ → Replayed
-replayIn file i limit ws st = cond (isImage ws) (leftBy (replayOf file i limit (controller (bankIn ws) st []))) (refusedReplay 21 ws st)
+-- whether records may have been done: 24, 25 and 26 are refusals, and no lent word changes
+abbrev pub tells : ℕ → Bool
+tells n = eqb n 0 || eqb n 27
 
 -- how many records it did, value and number of its last answer: a lent word that is not there is not written. The remainder cuts nothing (`NothingCut`)
 abbrev pub toldIn : Told → List ℕ → List ℕ
-toldIn t ws = set (set (set ws 0 (t .count % 2 ^ 32)) 1 (t .answer .value)) 2 (t .answer .number)
+toldIn t ts = cond (tells (t .number)) (set (set (set ts 0 (t .count % 2 ^ 32)) 1 (t .answer .value)) 2 (t .answer .number)) ts
 
--- where a section begins and how many bytes it has
-abbrev pub placedIn : ℕ → ℕ → List ℕ → List ℕ
-placedIn start bytes ws = set (set ws 0 start) 1 (bytes % 2 ^ 32)
+abbrev pub leftBy : List ℕ → List ℕ → Replay → Replayed
+leftBy ws ts r = record { number = r .told .number; image = imageAfter ws (r .left .bank); store = r .left .store; told = toldIn (r .told) ts }
+
+unfoldable pub replayIn : List ℕ → ℕ → ℕ → List ℕ → List ℕ → List ℕ → Replayed
+replayIn file i limit ws st ts = leftBy ws ts (replayOf file i limit (controller (bankFor ws) st []))
+
+-- ── Where a section of a trace lies ───────────────────────────────────────────────────────────────────────────
+pub record Placed : Type 0 where
+  pub number : ℕ
+  pub place : List ℕ
+
+-- where it begins and how many bytes it has; a refusal writes neither
+abbrev pub placedIn : ℕ → ℕ → ℕ → List ℕ → List ℕ
+placedIn number start bytes ws = cond (eqb number 0) (set (set ws 0 start) 1 (bytes % 2 ^ 32)) ws
+
+unfoldable pub sectionIn : List ℕ → ℕ → List ℕ → Placed
+sectionIn file i ws =
+    let n = lookNumber file i in
+    record { number = n; place = placedIn n (sectionStart file i) (length (section file i)) ws }

@@ -1,38 +1,54 @@
 -- What the calls of a host promise beside their definitions: every call has its numbers, words that are no image are refused, a refusal changes
--- nothing, nothing told is cut.
-use Prim.Native.Nat.{ℕ, _<_, _^_}
+-- nothing, what is done is told and not cut.
+use Prim.Native.Nat.{ℕ, _*_, _<_, _^_}
 use mathlib.Core.Path.{_≡_}
 use mathlib.Core.Bool.{true, false}
-use mathlib.Core.List.{List}
+use mathlib.Core.List.{List, [], _∷_}
 use lib.ListN.{length}
 use Rattle.model.specs.declared.Call.{Call}
 use Rattle.model.specs.declared.Call.the-variants.{Trigger}
 use Rattle.model.specs.Rings.{Controller}
+use Rattle.answer.specs.Given.{controller}
 use Rattle.letters.specs.declared.Parsed.{Parsed}
 use Rattle.letters.specs.declared.Parsed.the-variants.{Named}
-use Rattle.trace_model.specs.Format.{lookNumber, section}
+use Rattle.trace_model.specs.Format.{startAt, countAt, lookNumber, section}
 use Rattle.record_model.specs.Writer.{recordOf, writable}
 use Rattle.playback_model.specs.Replay.{replayOf}
+use Rattle.playback_model.specs.Done.{all21}
 use Rattle.image_model.specs.Image.{isImage}
-use Rattle.host_model.specs.Host.{callOf, refusal, stepIn, refusedReplay, replayIn}
+use Rattle.host_model.specs.Host.{callOf, refusal, stepIn, bankFor, toldIn, replayIn, sectionIn}
 
 -- every call whose arguments a record can hold is named by the numbers of its record, and the trigger by G
 unfoldable pub CalledIsNamed : Type 0
 CalledIsNamed =
     ((c : Call) → writable c ≡ true → (let r = recordOf c in callOf (r .letter) (r .offset) (r .first) (r .second) ≡ Named c)) × (callOf 0x47 0 0 0 ≡ Named Trigger)
 
--- words that are no image are answered 21, whatever the call or the trace, and nothing changes
+-- words that are no image: a call is answered 21, and so is each record of a replay, up to the limit or the first wrong one; nothing but what is told changes
 unfoldable pub NoImageIsRefused : Type 0
 NoImageIsRefused = (ws : List ℕ) → isImage ws ≡ false
-    → ((p : Parsed) (st o : List ℕ) → stepIn p ws st o ≡ refusal 21 ws st o) × ((file : List ℕ) (i limit : ℕ) (st : List ℕ) → replayIn file i limit ws st ≡ refusedReplay 21 ws st)
+    → ((p : Parsed) (st o : List ℕ) → stepIn p ws st o ≡ refusal 21 ws st o)
+    × ((file : List ℕ) (i limit : ℕ) (st ts : List ℕ) → (let t = all21 file i limit in replayIn file i limit ws st ts ≡ record { number = t .number; image = ws; store = st; told = toldIn t ts }))
 
 -- "Except for 0 and 19, bank, store and any other lent memory are unchanged and the value is 0."
 unfoldable pub RefusedStays : Type 0
 RefusedStays = (p : Parsed) (ws st o : List ℕ) → (let n = stepIn p ws st o .answer .number in (n ≡ 0 → ⊥) → (n ≡ 19 → ⊥) → stepIn p ws st o ≡ refusal n ws st o)
 
--- likewise a replay that is refused as a whole
+-- likewise a replay, which tells 27 "with the earlier records done", and the look-up of a section: image, store and the words lent for what is told
 unfoldable pub RefusedReplayStays : Type 0
-RefusedReplayStays = (file : List ℕ) (i limit : ℕ) (ws st : List ℕ) → isImage ws ≡ true → (lookNumber file i ≡ 0 → ⊥) → replayIn file i limit ws st ≡ refusedReplay (lookNumber file i) ws st
+RefusedReplayStays = (file : List ℕ) (i limit : ℕ) (ws st ts : List ℕ)
+    → (let n = replayIn file i limit ws st ts .number in (n ≡ 0 → ⊥) → (n ≡ 27 → ⊥) → replayIn file i limit ws st ts ≡ record { number = n; image = ws; store = st; told = ts })
+
+unfoldable pub RefusedSectionStays : Type 0
+RefusedSectionStays = (file : List ℕ) (i : ℕ) (ws : List ℕ)
+    → (let n = sectionIn file i ws .number in (n ≡ 0 → ⊥) → sectionIn file i ws ≡ record { number = n; place = ws })
+
+-- what is told, where there are words for it: how many records were done and the last one's answer; start and length of the section by the file's table
+unfoldable pub DoneIsTold : Type 0
+DoneIsTold = (file : List ℕ) (i limit : ℕ) (ws st ts : List ℕ) (a b c : ℕ) → lookNumber file i ≡ 0
+    → (let t = replayOf file i limit (controller (bankFor ws) st []) .told in replayIn file i limit ws st (a ∷ b ∷ c ∷ ts) .told ≡ t .count ∷ t .answer .value ∷ t .answer .number ∷ ts)
+
+unfoldable pub FoundIsPlaced : Type 0
+FoundIsPlaced = (file : List ℕ) (i : ℕ) (ws : List ℕ) (a b : ℕ) → lookNumber file i ≡ 0 → sectionIn file i (a ∷ b ∷ ws) .place ≡ startAt file i ∷ 12 * countAt file i ∷ ws
 
 -- the length of a section and the count of a replay have 32 bits
 unfoldable pub NothingCut : Type 0

@@ -2,3 +2,4 @@ pub mod Host
 pub mod Laws
 pub mod Types
 pub mod Along
+pub mod Demand

@@ -56,36 +56,28 @@ fn put(ws: &mut [u32], i: usize, w: u32)
     }
 }
 
-// What a replay tells, in lent memory; its number.
+// What a replay tells, in lent memory, where records may have been done; its number.
 pub fn tell(t: Told, told: &mut [u32]) -> u32
     ensures { λ n. ⌜ (n ≡ t .number) × (now (told .exit) ≡ toldIn t (now (told .entry))) ⌝ }
 {
+    let n = t.number;
+    if !((n == 0) | (n == 27)) {
+        return n;
+    }
     put(told, 0, (t.count % 0x1_0000_0000) as u32);
     put(told, 1, t.answer.value);
     put(told, 2, t.answer.number);
-    t.number
+    n
 }
 
-// A replay refused as a whole.
-pub fn untold(told: &mut [u32]) -> u32
-    ensures { λ n. ⌜ (n ≡ 21) × (now (told .exit) ≡ toldIn (record { number = 21; count = 0; answer = record { value = 0; number = 0 } }) (now (told .entry))) ⌝ }
+// Where a section begins and how many bytes it has, in lent memory, where it is not refused; the number of its look-up.
+pub fn tell_place(number: u32, start: u32, bytes: usize, place: &mut [u32]) -> u32
+    ensures { λ n. ⌜ (n ≡ number) × (now (place .exit) ≡ placedIn number start bytes (now (place .entry))) ⌝ }
 {
-    let a = Answer {
-        value: 0,
-        number: 0,
-    };
-    let t = Told {
-        number: 21,
-        count: 0,
-        answer: a,
-    };
-    tell(t, told)
-}
-
-// Where a section begins and how many bytes it has, in lent memory.
-pub fn tell_place(start: u32, bytes: usize, place: &mut [u32])
-    ensures { λ _. ⌜ now (place .exit) ≡ placedIn start bytes (now (place .entry)) ⌝ }
-{
+    if number != 0 {
+        return number;
+    }
     put(place, 0, start);
     put(place, 1, (bytes % 0x1_0000_0000) as u32);
+    number
 }

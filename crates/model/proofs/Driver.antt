@@ -35,7 +35,7 @@ use Rattle.model.specs.Engine.{Step, outcome, step, Lent, lending, final
 use Rattle.model.specs.Rings.{Area, Controller, areas, wordsIn, viewRings, onRings, onRing, onStore, settleRings, guardRings, rings}
 use Rattle.model.specs.Lists.{Lists, viewLists, settleLists, lists}
 use Rattle.model.specs.Laws.{fresh, freshLists, same, RefusalChangesNothing, StaysWellFormed}
-use Rattle.model.specs.Driver.{wordsOf, noRoom, shownOf, Within, PlainWriteTaken, ReadBack, RoomAndWords, takesWord, ReadChangesNothing, ControlAfter, ReadTook, ReadTakesOne, Clean, ReleasedClean, Outlives, ResetKeeps, reads, RefusedFinishAgain}
+use Rattle.model.specs.Driver.{wordsOf, noRoom, shownOf, Within, PlainWriteTaken, ReadBack, PushesReadZero, RoomAndWords, takesWord, ReadChangesNothing, ControlAfter, ReadTook, ReadTakesOne, Clean, ReleasedClean, Outlives, ResetKeeps, reads, RefusedFinishAgain}
 use Rattle.model.proofs.Tests.{Refusal, Passed}
 use Rattle.model.proofs.Room.{by-queue}
 use Rattle.model.proofs.Formed.{read-untouched}
@@ -98,6 +98,10 @@ read-back l o v c e w n =
     let f = subst (λ (m : Controller). wellFormed (m .bank) ≡ true) at (stays-well-formed l (Write o v) (h .0)) in
     subst (λ (m : Controller). step rings m (Read o) .answer ≡ record { value = shownOf c v l; number = 0 }) (sym at)
     (read-held (stored l c v) o c f (stored-size l c v true (h .1)) e ∙ ap (λ (x : ℕ). record { value = x; number = 0 }) (stored-shown l c v w))
+
+pub pushes-read-zero : PushesReadZero
+unfolding PushesReadZero
+pushes-read-zero l o q e = by-outcome (λ r. r .answer .value ≡ 0) l (Read o) (λ n k. refl) (λ f z p. ap (λ (x : Row). effect (read x (viewRings l)) .value) e)
 
 -- ── Room ──────────────────────────────────────────────────────────────────────────────────────────────────────
 caps-settled : (k : Queue) (m : Lists) (n : Option ℕ) (e : Effect) → of k (outcome n e m (settleLists m e) .next .queues) .cap ≡ of k (m .queues) .cap

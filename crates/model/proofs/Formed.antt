@@ -33,7 +33,7 @@ use Rattle.model.specs.Calls.{advanced, fresh, fills, start, send, recei
 use Rattle.model.specs.Bursts.{trigger, burstSend, burstReceive, burstFinish, decide}
 use Rattle.model.specs.Rings.{Controller, viewQueues, viewRings, onRing, onRings}
 use Rattle.model.proofs.Tests.{Passed, of-two}
-use Rattle.model.proofs.Room.{Fits, AllFit}
+use Rattle.model.specs.Fits.{Fits, AllFit}
 use Rattle.model.proofs.Rings.{cap-same, valid-op}
 
 -- ── Rings ─────────────────────────────────────────────────────────────────────────────────────────────────────

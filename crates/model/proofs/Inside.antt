@@ -31,7 +31,7 @@ use Rattle.model.specs.Bursts.{opening, lastly, delivered, dataWord, tri
 use Rattle.model.specs.Engine.{step}
 use Rattle.model.specs.Rings.{Controller, viewRings, rings}
 use Rattle.model.specs.Demand.{snoc}
-use Rattle.model.specs.BurstLaw.{after, resets, noReset, Moved, Log, untouched, noted, logged, leading, packed, Fits, EachFits, readWords}
+use Rattle.model.specs.BurstLaw.{after, resets, noReset, Moved, Log, untouched, noted, logged, leading, packed, Agrees, EachAgrees, readWords}
 use Rattle.model.proofs.Tests.{Passed, of-two, Refusal}
 use Rattle.model.proofs.Phases.{requested-assigns}
 use Rattle.model.proofs.Offsets.{quietWrite, write-quiet}
@@ -73,14 +73,14 @@ packed-one (a ∷ bs) j b =
     ap (λ (n : ℕ). x + n) (packed-one bs (suc j) b ∙ ap (λ (n : ℕ). y + b * 2 ^ (24 - 8 * n)) e) ∙ f
 
 -- a transfer done
-fits-one : (ws ps : List ℕ) (k : ℕ) (ts : List Moved) (t : Moved) → EachFits ws ps k ts → Fits ws ps (k + length ts) t → EachFits ws ps k (snoc ts t)
-unfolding EachFits
+fits-one : (ws ps : List ℕ) (k : ℕ) (ts : List Moved) (t : Moved) → EachAgrees ws ps k ts → Agrees ws ps (k + length ts) t → EachAgrees ws ps k (snoc ts t)
+unfolding EachAgrees
 fits-one ws ps k [] t h f =
     let e : k + 0 ≡ k = omega arith in
-    (subst (λ (n : ℕ). Fits ws ps n t) e f, tt)
+    (subst (λ (n : ℕ). Agrees ws ps n t) e f, tt)
 fits-one ws ps k (x ∷ ts) t h f =
     let e : k + suc (length ts) ≡ suc k + length ts = omega arith in
-    (h .0, fits-one ws ps (suc k) ts t (h .1) (subst (λ (n : ℕ). Fits ws ps n t) e f))
+    (h .0, fits-one ws ps (suc k) ts t (h .1) (subst (λ (n : ℕ). Agrees ws ps n t) e f))
 
 words-one : (ws : List ℕ) (k : ℕ) (ts : List Moved) (t : Moved) → readWords ws k (snoc ts t) ≡ readWords ws k ts ++ cond (bit 0 (getD ws (k + length ts) 0)) (packed 0 (t .received) ∷ []) []
 unfolding readWords
@@ -204,7 +204,7 @@ pub record Going (l : Controller) (ops burst : ℕ) (phase : Phase) (commands pa
   pub samePayloads : payloads ≡ l .bank .payloads
   pub stands : burst ≡ suc (length (g .done))
   pub room : readsIn (span (l .bank .state .regs)) (l .bank .commands) ≤ length (l .output)
-  pub fits : EachFits (l .bank .commands) (l .bank .payloads) 0 (g .done)
+  pub fits : EachAgrees (l .bank .commands) (l .bank .payloads) 0 (g .done)
   pub words : output ≡ readWords (l .bank .commands) 0 (g .done) ++ drop (readsIn (length (g .done)) (l .bank .commands)) (l .output)
   pub atHand : AtHand (wordAt l (length (g .done))) (dataAt l (length (g .done))) (transfer phase) (g .now)
 
@@ -377,7 +377,7 @@ module _ (l : Controller) (g : Log) (s : View) (h : GoesOn l s g) (o : Opened s)
       })
 
   -- the transfer at hand is done
-  now-fits : Fits (l .bank .commands) (l .bank .payloads) at (g .now)
+  now-fits : Agrees (l .bank .commands) (l .bank .payloads) at (g .now)
   now-fits =
       let t = transfer (s .phase) in
       let a = h .atHand in
@@ -387,10 +387,10 @@ module _ (l : Controller) (g : Log) (s : View) (h : GoesOn l s g) (o : Opened s)
       let e = eqb-true (t .length .0) (bits 19 8 (wordAt l at)) (shape .length) in
       record { reads = λ b. a .reads b .0; writes = λ b. a .writes b; bounded = omega (arith, n, m, u, e) }
 
-  pub done-fits : EachFits (l .bank .commands) (l .bank .payloads) 0 (snoc (g .done) (g .now))
+  pub done-fits : EachAgrees (l .bank .commands) (l .bank .payloads) 0 (snoc (g .done) (g .now))
   done-fits =
       let e : at ≡ 0 + at = omega arith in
-      fits-one (l .bank .commands) (l .bank .payloads) 0 (g .done) (g .now) (h .fits) (subst (λ (n : ℕ). Fits (l .bank .commands) (l .bank .payloads) n (g .now)) e now-fits)
+      fits-one (l .bank .commands) (l .bank .payloads) 0 (g .done) (g .now) (h .fits) (subst (λ (n : ℕ). Agrees (l .bank .commands) (l .bank .payloads) n (g .now)) e now-fits)
 
   pub has-command : suc at ≤ span (l .bank .state .regs)
   has-command = subst (λ (n : ℕ). n ≤ span (l .bank .state .regs)) (h .stands) (subst (λ (n : ℕ). s .control .burst ≤ n) same-span (leb-true (s .control .burst) (span (s .regs)) (parts .stands)))
@@ -535,7 +535,7 @@ abbrev pub unbegun : Log
 unbegun = record { done = []; now = untouched }
 
 triggered-goes : (l : Controller) → Passed (trigger (viewRings l)) → (let e = effect (trigger (viewRings l)) in Going l (e .regs .ops) (e .control .burst) (e .phase) (e .tables .commands) (e .tables .payloads) (e .tables .output) unbegun)
-unfolding trigger readsIn readWords EachFits
+unfolding trigger readsIn readWords EachAgrees
 triggered-goes l f =
     record {
       sameOps = refl;

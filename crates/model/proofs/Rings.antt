@@ -11,12 +11,13 @@ use Rattle.ring.specs.Ring.{Valid, placeOf, pushedOf, entries}
 use Rattle.ring.proofs.Laws.{place-below, entries-length, entries-push, entries-take, entries-clear, entries-other, valid-push, valid-take, valid-clear}
 use Rattle.bank.specs.Queues.{Queues, queuesIn, capsOf}
 use Rattle.bank.specs.SetUp.{total}
-use Rattle.bank.proofs.Laws.{Ready}
+use Rattle.bank.specs.Ready.{Ready}
 use Rattle.model.specs.View.{Queue, Cmd, Cmdr, Sdo, Sdi, Ibi, Five, each, of}
 use Rattle.model.specs.Decision.{QueueOp, keep, clear, take, push, push2, Effect}
 use Rattle.model.specs.Rings.{Controller, Area, area, areas, wordsIn, viewArea, viewQueues, viewRings, onRing, onStore, onRings, onStores, settleRings}
 use Rattle.model.specs.Lists.{ListQueue, Lists, viewList, viewLists, onWords, onList, settleLists}
-use Rattle.model.proofs.Room.{Fits, AllFit, by-queue}
+use Rattle.model.specs.Fits.{Fits, AllFit}
+use Rattle.model.proofs.Room.{by-queue}
 
 -- ── The lists that the rings hold ─────────────────────────────────────────────────────────────────────────────
 abbrev pub listQueue : Area → List ℕ → ListQueue

@@ -13,25 +13,13 @@ use Rattle.model.specs.declared.Call.{Call}
 use Rattle.model.specs.declared.Call.the-variants.{Read, Write, Start, Send, Receive, Finish, Interrupt, Request, Take, Trigger}
 use Rattle.bank.specs.Bits.{bit}
 use Rattle.model.specs.View.{Queue, Cmd, Cmdr, Sdo, Sdi, Ibi, Five, of, QueueView, room, empty, full, View}
+use Rattle.model.specs.Fits.{FitsIn, AllFit}
 use Rattle.model.specs.Decision.{QueueOp, keep, clear, take, push, push2, keepAll, only, Decision, effect}
 use Rattle.model.specs.Commands.{twoWords}
 use Rattle.model.specs.Registers.{Row, absent, shows, holds, pushes, takes, enables, acknowledges, row, enable, read, write}
 use Rattle.model.specs.Calls.{whole, wordCount, fresh, fills, padded, start, send, receive, finish, interrupt, request, takeAddress}
 use Rattle.model.specs.Bursts.{trigger, burstSend, burstReceive, burstFinish, decide}
 use Rattle.model.proofs.Tests.{Passed, of-two}
-
-abbrev pub Fits : QueueOp → ℕ → ℕ → Type 0
-Fits keep cap level = Unit {0}
-Fits clear cap level = Unit {0}
-Fits (take k) cap level = k ≤ level
-Fits (push w) cap level = level + 1 ≤ cap
-Fits (push2 v w) cap level = level + 2 ≤ cap
-
-abbrev FitsIn : QueueOp → QueueView → Type 0
-FitsIn o q = Fits o (q .cap) (q .level)
-
-abbrev pub AllFit : Five QueueOp → Five QueueView → Type 0
-AllFit o f = (k : Queue) → FitsIn (of k o) (of k f)
 
 -- five proofs, one for each queue
 pub by-queue : (P : Queue → Type 0) → P Cmd → P Cmdr → P Sdo → P Sdi → P Ibi → (k : Queue) → P k

@@ -87,14 +87,14 @@ packed j (b ∷ bs) = b * 2 ^ (24 - 8 * j) + packed (suc j) bs
 -- ── The law ───────────────────────────────────────────────────────────────────────────────────────────────────
 -- the transfer of the command at place k: of a write the bytes sent are the leading bytes of the data word that its place gives, and a
 -- read sends none; neither moves more than its length
-pub record Fits (commands payloads : List ℕ) (k : ℕ) (t : Moved) : Type 0 where
+pub record Agrees (commands payloads : List ℕ) (k : ℕ) (t : Moved) : Type 0 where
   pub reads : bit 0 (getD commands k 0) ≡ true → t .sent ≡ []
   pub writes : bit 0 (getD commands k 0) ≡ false → (t .received ≡ []) × (t .sent ≡ leading (length (t .sent)) (getD payloads (writesIn k commands) 0))
   pub bounded : length (t .sent) + length (t .received) ≤ bits 19 8 (getD commands k 0)
 
-unfoldable pub EachFits : List ℕ → List ℕ → ℕ → List Moved → Type 0
-EachFits ws ps k [] = Unit {0}
-EachFits ws ps k (t ∷ ts) = Fits ws ps k t × EachFits ws ps (suc k) ts
+unfoldable pub EachAgrees : List ℕ → List ℕ → ℕ → List Moved → Type 0
+EachAgrees ws ps k [] = Unit {0}
+EachAgrees ws ps k (t ∷ ts) = Agrees ws ps k t × EachAgrees ws ps (suc k) ts
 
 -- the words of the reads, in order
 unfoldable pub readWords : List ℕ → ℕ → List Moved → List ℕ
@@ -103,7 +103,7 @@ readWords ws k (t ∷ ts) = cond (bit 0 (getD ws k 0)) (packed 0 (t .received) �
 
 -- l before the trigger, m after the last finish, n where the accesses alone were made, ts the transfers
 pub record Burst (l m n : Controller) (ts : List Moved) : Type 0 where
-  pub transfers : EachFits (l .bank .commands) (l .bank .payloads) 0 ts
+  pub transfers : EachAgrees (l .bank .commands) (l .bank .payloads) 0 ts
   -- the output: "one per read command"; words past them stay
   pub output : m .output ≡ readWords (l .bank .commands) 0 ts ++ drop (readsIn (span (l .bank .state .regs)) (l .bank .commands)) (l .output)
   -- the five queues, ENABLE, both syncs and the pending bits are what the accesses alone leave

@@ -55,6 +55,10 @@ ReadBack =
     (l : Controller) (o v : ℕ) (c : Cell) → row (registerAt o) ≡ holds c → Within c v l → step rings l (Write o v) .answer .number ≡ 0
     → step rings (step rings l (Write o v) .next) (Read o) .answer ≡ record { value = shownOf c v l; number = 0 }
 
+-- CMD and SDO: "write pushes, read gives 0"
+unfoldable pub PushesReadZero : Type 0
+PushesReadZero = (l : Controller) (o : ℕ) (q : Queue) → row (registerAt o) ≡ pushes q → step rings l (Read o) .answer .value ≡ 0
+
 -- ── The room of CMD and SDO plus the words that they hold is the capacity, after any list of calls ────────────
 pub record RoomIs (l : Controller) (caps : Sizes) : Type 0 where
   pub cmd : step rings l (Read 0x0c0) .answer .value + length (wordsIn (areas (queuesIn (l .bank)) .cmd) (l .store)) ≡ caps .cmd

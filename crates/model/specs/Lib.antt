@@ -15,3 +15,4 @@ pub mod BurstCases
 pub mod Tallies
 pub mod Driver
 pub mod Endings
+pub mod Fits

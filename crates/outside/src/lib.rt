@@ -6,7 +6,7 @@ ghost use Prim.Native.Nat.{ℕ, _≤_};
 ghost use lib.ListN.{length};
 ghost use Rattle.bank.specs.Queues.{queuesOf};
 ghost use Rattle.bank.specs.Bursts.{bursting};
-ghost use Rattle.bank.proofs.Laws.{Ready};
+ghost use Rattle.bank.specs.Ready.{Ready};
 ghost use Rattle.model.specs.declared.Call.the-variants.{Read};
 ghost use Rattle.model.specs.View.{tables};
 ghost use Rattle.model.specs.Laws.{isAccess};
@@ -42,7 +42,7 @@ fn start(st: State, w: u32, x: u32, flags: &[u8; 128]) -> Effect
     ensures { λ e. ⌜ ((c p o : List ℕ) (f : Fronts) → w ≡ f .cmd .first → x ≡ f .cmd .second → (let t = tables (now (flags .entry)) c p o in effectOf e t ≡ verdict start (seen st t f))) ⌝ }
 {
     let at = (w / 2 % 128) as usize;
-    transfer::start(st, w, x, flags[at])
+    start::start(st, w, x, flags[at])
 }
 
 // A device asks for an interrupt.
@@ -50,7 +50,7 @@ fn interrupt(st: State, flags: &[u8; 128], address: u8, byte: u8) -> Effect
     requires { ⌜ address ≤ 127 ⌝ }
     ensures { λ e. ⌜ ((c p o : List ℕ) (f : Fronts) → (let t = tables (now (flags .entry)) c p o in effectOf e t ≡ verdict (λ v. interrupt v address byte) (seen st t f))) ⌝ }
 {
-    requests::interrupt(st, flags[address as usize], address, byte)
+    interrupt::interrupt(st, flags[address as usize], address, byte)
 }
 
 // Any such call that passes 18.
@@ -78,10 +78,10 @@ pub fn call(
         ),
         Call::Send => payload::send(st, rings::sdo_first(st.caps, st.levels, h, store)),
         Call::Receive(byte) => payload::receive(st, byte),
-        Call::Finish(code) => transfer::finish(st, code),
+        Call::Finish(code) => finish::finish(st, code),
         Call::Interrupt(address, byte) => interrupt(st, flags, address, byte),
-        Call::Request(v, w) => requests::request(st, v, w),
-        Call::Take => requests::take_address(st, rings::sdo_first(st.caps, st.levels, h, store)),
-        Call::Trigger => burst::trigger(st, flags, commands, len),
+        Call::Request(v, w) => addresses::request(st, v, w),
+        Call::Take => addresses::take_address(st, rings::sdo_first(st.caps, st.levels, h, store)),
+        Call::Trigger => trigger::trigger(st, flags, commands, len),
     }
 }

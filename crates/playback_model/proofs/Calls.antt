@@ -19,7 +19,7 @@ use Rattle.record_model.specs.Writer.{WrittenIsRead, traceOf, namedFrom, sectio
 use Rattle.record_model.proofs.Kept.{same-output, empty}
 use Rattle.record_model.proofs.Made.{each-named, each-stopped, named-count}
 use Rattle.record_model.proofs.RoundTrip.{written-is-read}
-use Rattle.playback_model.specs.Replay.{Replay, telling, begun, did, wrong}
+use Rattle.playback_model.specs.Replay.{telling, begun, did, wrong}
 use Rattle.playback_model.specs.Laws.{lentOn, EmptyIsLent, made, OneByOne, StopsAtWrong, RefusedLeavesAll, WrittenIsMade}
 use Rattle.playback_model.proofs.Laws.{refuses, plays}
 
@@ -33,7 +33,7 @@ goes-on (k ∷ ks) n c a l =
     let z : suc c + length ks ≡ c + suc (length ks) = omega arith in
     goes-on ks n (suc c) (s .answer) (s .next) ∙ ap (λ (m : ℕ). telling n m (foldl (λ _ x. x) (s .answer) (answers rings (s .next) (lentOn ks (s .next)))) (final rings (s .next) (lentOn ks (s .next)))) z
 
-one-after-another : (ks : List Call) (l : Controller) → foldl (λ r k. did k r) (begun 0 l) ks ≡ made 0 ks l
+pub one-after-another : (ks : List Call) (l : Controller) → foldl (λ r k. did k r) (begun 0 l) ks ≡ made 0 ks l
 one-after-another ks l =
     let z : 0 + length ks ≡ length ks = omega arith in
     goes-on ks 0 0 (record { value = 0; number = 0 }) l ∙ ap (λ (m : ℕ). telling 0 m (made 0 ks l .told .answer) (made 0 ks l .left)) z

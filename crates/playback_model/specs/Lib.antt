@@ -1,2 +1,4 @@
 pub mod Replay
 pub mod Laws
+pub mod Done
+pub mod Demand

@@ -42,17 +42,7 @@ fn replay_parts(
     for i in 0..n {
         match record::at(records, i) {
             Parsed::Named(c) => {
-                let y = controller::step_parts(
-                    s,
-                    h,
-                    flags,
-                    commands,
-                    payloads,
-                    store,
-                    output,
-                    fault,
-                    c,
-                );
+                let y = serve::step_parts(s, h, flags, commands, payloads, store, output, fault, c);
                 s = y.state;
                 h = y.heads;
                 a = y.answer;

@@ -1,4 +1,4 @@
--- The laws of a ring's entries, for any capacity that a ring may have and any base.
+-- The laws of a ring's entries, for any capacity and any base.
 use Prim.Native.Nat.{ℕ, zero, suc, _+_, _-_, _%_, _<_, _≤_}
 use native.Mathlib.Nat.{mod-eq-of-lt, mod-eq-sub-mod, mod-add-mod, mod-lt}
 use native.Mathlib.Numerals.{add-one}
@@ -36,6 +36,10 @@ read-snoc s f (suc n) = ap (λ (l : List ℕ). getD s (f 0) 0 ∷ l) (read-snoc 
 pub wrap : (h i c : ℕ) → h < c → i ≤ c → ((h + i) % c ≡ h + i) ⊎ ((h + i) % c + c ≡ h + i)
 wrap h i c p q =
     elim (decLt (h + i) c) [ yes l ↦ inl (mod-eq-of-lt l) | no n ↦ inr (let e : (h + i) % c ≡ h + i - c = mod-eq-sub-mod (omega arith) ∙ mod-eq-of-lt (omega arith) in omega arith) ]
+
+-- past the wrap a place is what the entries before it leave
+pub wrapped : (h i c : ℕ) → h < c → i ≤ c → c - h ≤ i → i - (c - h) ≡ (h + i) % c
+wrapped h i c p q l = let e : (h + i) % c ≡ h + i - c = mod-eq-sub-mod (omega arith) ∙ mod-eq-of-lt (omega arith) in omega arith
 
 pub place-below : (r : Ring) → Valid r → (i : ℕ) → placeOf r i < r .cap .0
 place-below r f i = mod-lt (r .head + i) (f .cap-least)
@@ -103,10 +107,10 @@ entries-other r base s at w f o =
 
 -- a ring stays in order
 pub valid-push : (r : Ring) → Valid r → r .level .0 < r .cap .0 → Valid (pushedOf r)
-valid-push r f h = record { cap-least = f .cap-least; cap-most = f .cap-most; head-below = f .head-below; level-most = omega arith }
+valid-push r f h = record { cap-least = f .cap-least; head-below = f .head-below; level-most = omega arith }
 
 pub valid-take : (r : Ring) (k : ℕ) → Valid r → Valid (takenOf r k)
-valid-take r k f = record { cap-least = f .cap-least; cap-most = f .cap-most; head-below = place-below r f k; level-most = omega arith }
+valid-take r k f = record { cap-least = f .cap-least; head-below = place-below r f k; level-most = omega arith }
 
 pub valid-clear : (r : Ring) → Valid r → Valid (clearedOf r)
-valid-clear r f = record { cap-least = f .cap-least; cap-most = f .cap-most; head-below = f .cap-least; level-most = omega arith }
+valid-clear r f = record { cap-least = f .cap-least; head-below = f .cap-least; level-most = omega arith }

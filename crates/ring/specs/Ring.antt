@@ -6,10 +6,9 @@ use mathlib.Core.List.{List, [], _∷_}
 use lib.ListN.{getD}
 use Rattle.ring.specs.declared.Ring.{Ring}
 
--- a ring with a capacity of 1 to 1,024, its head below and its level at most the capacity
+-- a ring with a place, its head below and its level at most its capacity, which may be any
 pub record Valid (r : Ring) : Type 0 where
   pub cap-least : 0 < r .cap .0
-  pub cap-most : r .cap .0 ≤ 1024
   pub head-below : r .head < r .cap .0
   pub level-most : r .level .0 ≤ r .cap .0
 

@@ -26,14 +26,14 @@ pub struct Ring {
     pub level: Words,
 }
 
-// The place `i` after the head: one comparison and one subtraction, no division.
+// The place `i` after the head, without a division. What is left before the wrap is compared, and not the sum, which a
+// large capacity could carry past its type.
 pub fn place(r: Ring, i: u32) -> u32
     requires { ⌜ (Valid r) × (i ≤ r .cap .0) ⌝ }
     ensures { λ p. ⌜ (p ≡ placeOf r i) × (p < r .cap .0) ⌝ }
 {
-    let at = r.head + i;
-    let cap = r.cap.0;
-    if at < cap { at } else { at - cap }
+    let left = r.cap.0 - r.head;
+    if i < left { r.head + i } else { i - left }
 }
 
 // A ring with another head and another level, put together field by field: fields that are copied in one piece stay in

@@ -9,7 +9,7 @@ use denote.Enum.Declared.{tagOf}
 use Rattle.ring.specs.declared.Ring.{Ring}
 use Rattle.ring.specs.Ring.{Valid}
 use Rattle.bank.specs.Queues.{Queues}
-use Rattle.bank.proofs.Laws.{Ready}
+use Rattle.bank.specs.Ready.{Ready}
 use Rattle.registers.specs.declared.Register.{Register}
 use Rattle.registers.specs.declared.Register.the-variants.{Version, Id, Scratch, Enable, IrqMask, IrqPending, IrqSource, CmdRoom, CmdrLevel, SdoRoom, SdiLevel, IbiLevel, CmdFifo, CmdrFifo, SdoFifo, SdiFifo, IbiFifo, FifoStatus, Ops, IbiConfig, DevChar, OffloadCmd, OffloadSdo, Unmapped}
 use Rattle.registers.proofs.Register.{the-type}

@@ -3,7 +3,7 @@ ghost use mathlib.Core.Path.{_≡_};
 ghost use Prim.Native.Nat.{_+_};
 ghost use lib.ListN.{getD};
 ghost use Rattle.bank.specs.Queues.{ring, queuesOf};
-ghost use Rattle.bank.proofs.Laws.{Ready};
+ghost use Rattle.bank.specs.Ready.{Ready};
 ghost use Rattle.model.specs.Registers.{row};
 ghost use Rattle.model.specs.Rings.{areas, wordsIn, cmdrAt, sdoAt, sdiAt, ibiAt};
 ghost use Rattle.effect.specs.Seen.{takenBy};

@@ -1,20 +1,39 @@
 // 01's session: lines from standard input, the answers of the calls that they name to standard output. It reads and
-// writes in pieces, and holds no line. Every call is lent an empty output: no letter names the trigger.
+// writes in pieces, and holds no line. Every call is lent an empty output: no letter names the trigger. Where input or
+// output fails it, it says so on standard error.
 ghost use Prim.Native.Nat.{_≤_};
 ghost use lib.ListN.{length};
 use bank::Bank;
 use lines::Reading;
 
-// The bank and the line so far; whether there may be more to read; whether all output was written.
+// The bank and the line so far; how many answers were written; whether there may be more to read; whether the input
+// could be read, and all output be written.
 struct Went {
     bank: Bank,
     line: Reading,
+    answers: u64,
     more: bool,
+    readable: bool,
     written: bool,
 }
 
+// Input or output failed: says so, with how many answers were written before.
+fn input_failed(answers: u64) {
+    notice::tell(
+        b"session: standard input cannot be read; answers written: ",
+        answers,
+    );
+}
+
+fn output_failed(answers: u64) {
+    notice::tell(
+        b"session: standard output cannot be written; answers written: ",
+        answers,
+    );
+}
+
 // The next piece of the input.
-fn turn(b: Bank, line: Reading, store: &mut [u32], out: &mut [u8]) -> Went
+fn turn(b: Bank, line: Reading, store: &mut [u32], out: &mut [u8], answers: u64) -> Went
     requires { ⌜ 49152 ≤ length (now out) ⌝ }
 {
     let mut piece = [0u8; 4096];
@@ -23,7 +42,9 @@ fn turn(b: Bank, line: Reading, store: &mut [u32], out: &mut [u8]) -> Went
         return Went {
             bank: b,
             line: line,
+            answers: answers,
             more: false,
+            readable: got == 0,
             written: true,
         };
     }
@@ -31,25 +52,28 @@ fn turn(b: Bank, line: Reading, store: &mut [u32], out: &mut [u8]) -> Went
     let mut none = [0u32; 0];
     let f = sessions::feed(b, store, &mut none, line, &piece[..n], out);
     let m = f.count;
-    let ok = io::write_all(1, &out[..m]);
+    let sent = notice::write_counted(1, &out[..m]);
     let next = f.bank;
     let rest = f.line;
     Went {
         bank: next,
         line: rest,
-        more: ok,
-        written: ok,
+        answers: notice::counted(answers, sent),
+        more: sent == m,
+        readable: true,
+        written: sent == m,
     }
 }
 
-// The end of the input ends the last line.
-fn end(b: Bank, line: Reading, store: &mut [u32], out: &mut [u8])
+// The end of the input ends the last line: whether all output was written.
+fn end(b: Bank, line: Reading, store: &mut [u32], out: &mut [u8]) -> bool
     requires { ⌜ 12 ≤ length (now out) ⌝ }
 {
     let mut none = [0u32; 0];
     let e = sessions::end_line(b, store, &mut none, line, out, 0);
     let m = e.count;
-    io::write_all(1, &out[..m]);
+    let sent = notice::write_counted(1, &out[..m]);
+    sent == m
 }
 
 fn main() {
@@ -57,6 +81,8 @@ fn main() {
     let mut out = io::large_buffer();
     let mut bank = setup::session_bank();
     let mut line = lines::begin();
+    let mut answers: u64 = 0;
+    let mut readable = true;
     let mut written = true;
     let mut more = true;
     let mut turns = u64::MAX;
@@ -65,13 +91,23 @@ fn main() {
             return;
         }
         turns -= 1;
-        let t = turn(bank, line, &mut store, &mut out);
+        let t = turn(bank, line, &mut store, &mut out, answers);
         bank = t.bank;
         line = t.line;
+        answers = t.answers;
         more = t.more;
+        readable = t.readable;
         written = t.written;
     }
+    if !readable {
+        // The line at hand has not ended, so it is no call.
+        input_failed(answers);
+        return;
+    }
     if written {
-        end(bank, line, &mut store, &mut out);
+        written = end(bank, line, &mut store, &mut out);
+    }
+    if !written {
+        output_failed(answers);
     }
 }

@@ -10,11 +10,12 @@ use Rattle.ring.specs.Ring.{Valid}
 use Rattle.bank.specs.declared.State.{State}
 use Rattle.bank.specs.declared.Heads.{Heads}
 use Rattle.bank.specs.Queues.{Queues, queuesOf}
-use Rattle.bank.proofs.Laws.{Ready}
+use Rattle.bank.specs.Ready.{Ready}
 use Rattle.model.specs.View.{Queue, Cmd, Cmdr, Sdo, Sdi, Ibi, Five, of, QueueView, Tables}
 use Rattle.model.specs.Decision.{QueueOp, keepAll}
 use Rattle.model.specs.Rings.{Area, area, areas, viewQueues, onRing, onStore, onRings, onStores}
-use Rattle.model.proofs.Room.{Fits, AllFit, by-queue}
+use Rattle.model.specs.Fits.{Fits, AllFit}
+use Rattle.model.proofs.Room.{by-queue}
 use Rattle.model.proofs.Rings.{caps-same}
 use Rattle.effect.specs.declared.Op.{Op}
 use Rattle.effect.specs.declared.Ops.{Ops}

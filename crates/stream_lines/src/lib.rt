@@ -54,17 +54,7 @@ fn show_parts(
     for i in 0..n {
         match record::at(records, i) {
             Parsed::Named(c) => {
-                let y = controller::step_parts(
-                    s,
-                    h,
-                    flags,
-                    commands,
-                    payloads,
-                    store,
-                    output,
-                    fault,
-                    c,
-                );
+                let y = serve::step_parts(s, h, flags, commands, payloads, store, output, fault, c);
                 s = y.state;
                 h = y.heads;
                 let text = print::line(y.answer);

@@ -15,7 +15,7 @@ use Rattle.trace_model.specs.declared.Head.the-variants.{More, Wrong, Right}
 use Rattle.trace_model.specs.Format.{mark, opens, sections, records, tableRight, fault}
 use Rattle.trace_model.specs.Head.{headLength, headOf}
 use Rattle.trace_model.proofs.Table.{sound}
-use Rattle.trace_model.proofs.Heads.{mark-cut, mark-wrong, count-there, table-whole, table-right, right-within}
+use Rattle.trace_model.proofs.Heads.{mark-cut, mark-wrong, right-within}
 use Rattle.record_model.specs.Record.{within}
 use Rattle.stream_model.specs.declared.Stage.{Stage}
 use Rattle.stream_model.specs.declared.Stage.the-variants.{Opening, Records, Over}
@@ -23,9 +23,10 @@ use Rattle.stream_model.specs.Stream.{Printed, lines, Stream, stream, re
 use Rattle.stream_model.specs.Laws.{after, CutAnywhere, fedPieces, AnyPieces, SoundIsPrinted, MarkIsTold}
 use Rattle.stream_model.proofs.Counts.{within-is, within-long}
 use Rattle.stream_model.proofs.Cutting.{past, picked, as-told, cut-anywhere}
+use Rattle.stream_model.proofs.Tables.{right-sound, sound-head}
 
 -- what a piece printed, and the end behind it
-abbrev ended : List ℕ → Stream → List ℕ
+abbrev pub ended : List ℕ → Stream → List ℕ
 ended bytes y = y .text ++ endText (y .stage) (length bytes - y .used)
 
 -- ── Pieces ────────────────────────────────────────────────────────────────────────────────────────────────────
@@ -126,29 +127,24 @@ head-and-records l file n r e long =
     ∙ closed (p .left) bytes (r - r) r (p .text) (p .wrong) rest (omega arith)
 
 -- the mark by the number
-marked : (m t : Bool) → _≡_ {A = ℕ} (cond m (cond t 0 25) 24) 0 → m ≡ true
-marked true t e = refl
-marked false t e = absurd (omega arith)
+right-mark : (m t : Bool) → _≡_ {A = ℕ} (cond m (cond t 0 25) 24) 0 → m ≡ true
+right-mark true t e = refl
+right-mark false t e = absurd (omega arith)
 
 unmarked : (m t : Bool) → _≡_ {A = ℕ} (cond m (cond t 0 25) 24) 24 → m ≡ false
 unmarked true true e = absurd (omega arith)
 unmarked true false e = absurd (omega arith)
 unmarked false t e = refl
 
-sound-head : (file : List ℕ) → fault file ≡ 0 → headOf file ≡ Right (headLength file) (records file (sections file))
+right-head : (file : List ℕ) → fault file ≡ 0 → headOf file ≡ Right (headLength file) (records file (sections file))
 unfolding fault
-sound-head file e =
-    let n = sections file in
-    let t = sound file e in
-    sym (table-right file n refl true (length file) (records file n) (sym (t .starts)) refl (sym (t .ends)) (t .size) (omega (arith, t .ends))
-    ∙ table-whole file n refl (t .least) (t .most) (t .whole)
-    ∙ count-there file true (sym (marked (opens mark file) (tableRight file) e)) refl (t .head))
+right-head file e = sound-head file (right-mark (opens mark file) (tableRight file) e) (right-sound file (sound file e))
 
 pub sound-is-printed : SoundIsPrinted
 unfolding SoundIsPrinted
 sound-is-printed l file e =
     let n = headLength file in
-    head-and-records l file n (records file (sections file)) (sound-head file e) (omega (arith, sound file e .ends, length-drop n file))
+    head-and-records l file n (records file (sections file)) (right-head file e) (omega (arith, sound file e .ends, length-drop n file))
 
 -- ── No right mark ─────────────────────────────────────────────────────────────────────────────────────────────
 pub mark-is-told : MarkIsTold

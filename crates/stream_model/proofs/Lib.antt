@@ -3,5 +3,8 @@ pub mod Counts
 pub mod Prefix
 pub mod Runs
 pub mod Cutting
+pub mod Tables
 pub mod Inputs
 pub mod Whole
+pub mod Lengths
+pub mod Done

@@ -17,10 +17,10 @@ use Rattle.stream_model.specs.Laws.{WrittenIsPrinted}
 use Rattle.stream_model.proofs.Inputs.{reported, head-and-records}
 
 -- calls one after another, from where some were made
-abbrev made : List Call → Printed → Printed
+abbrev pub made : List Call → Printed → Printed
 made ks p = foldl (λ p k. said k p) p ks
 
-none-wrong : (ks : List Call) (p : Printed) → p .wrong ≡ false → made ks p .wrong ≡ false
+pub none-wrong : (ks : List Call) (p : Printed) → p .wrong ≡ false → made ks p .wrong ≡ false
 none-wrong [] p e = e
 none-wrong (k ∷ ks) p e = none-wrong ks (said k p) refl
 

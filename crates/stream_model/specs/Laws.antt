@@ -1,14 +1,16 @@
 -- What a stream promises beside its definition.
 use Prim.Native.Nat.{ℕ, _+_, _≤_}
 use mathlib.Core.Path.{_≡_}
-use mathlib.Core.Bool.{true, false, cond}
+use mathlib.Core.Bool.{Bool, true, false, cond, _&&_}
 use mathlib.Core.List.{List, [], _∷_, _++_, foldl, flatten}
+use lib.Dec.{leb}
 use lib.ListN.{length, drop}
 use Rattle.model.specs.declared.Call.{Call}
 use Rattle.model.specs.Rings.{Controller}
 use Rattle.print.specs.Line.{lineOf}
-use Rattle.trace_model.specs.Format.{sections, records, fault}
+use Rattle.trace_model.specs.Format.{sections, records, placeOf, startsRight, fault}
 use Rattle.trace_model.specs.Head.{headLength}
+use Rattle.record_model.specs.Record.{within}
 use Rattle.record_model.specs.Writer.{traceOf, everyWritable}
 use Rattle.stream_model.specs.declared.Stage.{Stage}
 use Rattle.stream_model.specs.declared.Stage.the-variants.{Opening}
@@ -40,6 +42,23 @@ SoundIsPrinted = (l : Controller) (file : List ℕ) → fault file ≡ 0
 -- a mark that is wrong or cut short is told, and nothing else
 unfoldable pub MarkIsTold : Type 0
 MarkIsTold = (l : Controller) (file : List ℕ) → fault file ≡ 24 → transcript l file ≡ lineOf 0 24
+
+-- a table that is whole and right and asks for 16 MiB at most: the length of the file may still be another
+unfoldable pub tableSound : List ℕ → Bool
+tableSound file =
+    let n = sections file in
+    leb 6 (length file) && leb 1 n && leb n 64 && leb (headLength file) (length file) && startsRight file n && leb (placeOf file n) 0x1000000
+
+-- 25, "at once" where the table is not so
+unfoldable pub TableIsTold : Type 0
+TableIsTold = (l : Controller) (file : List ℕ) → fault file ≡ 25 → tableSound file ≡ false → transcript l file ≡ lineOf 0 25
+
+-- and else a wrong length, "after the records before": the lines of the whole records that are there, up to the table's total; where one of them is wrong, 27 and no 25
+unfoldable pub LengthIsTold : Type 0
+LengthIsTold = (l : Controller) (file : List ℕ) → fault file ≡ 25 → tableSound file ≡ true
+    → (let bytes = drop (headLength file) file in
+    let p = lines (within (records file (sections file)) bytes) bytes l in
+    (placeOf file (sections file) ≡ length file → ⊥) × (transcript l file ≡ p .text ++ lineOf 0 (cond (p .wrong) 27 25)))
 
 -- the lines of some calls, made one after another
 abbrev pub spoken : List Call → Controller → List ℕ

@@ -1,14 +1,21 @@
 // What the benchmark times: a section of a trace by a call in place for each record. The bank lives inside the exported
 // function, which can take no reference that leads to an enum.
 ghost use mathlib.Core.Path.{_≡_};
+ghost use mathlib.Core.List.{[]};
+ghost use Prim.Native.Nat.{_*_, _≤_, _%_, _^_};
+ghost use lib.ListN.{length};
 ghost use Rattle.model.specs.Engine.{step};
 ghost use Rattle.model.specs.Rings.{rings};
 ghost use Rattle.answer.specs.Given.{controller, givenOut};
+ghost use Rattle.record_model.specs.Record.{each};
+ghost use Rattle.playback_model.specs.Replay.{begun, did, wrong, replayOf};
+ghost use Rattle.timing.specs.Timing.{freshOf, keptIn};
 use answer::Out;
 use bank::Answer;
 use bank::Bank;
 use letters::Parsed;
 use model::Call;
+use playback_model::Told;
 
 // A call in place on a bank in a local. Whoever calls this needs no walk.
 fn step_once(b: Bank, call: Call, store: &mut [u32], output: &mut [u32]) -> Out
@@ -22,28 +29,48 @@ fn step_once(b: Bank, call: Call, store: &mut [u32], output: &mut [u32]) -> Out
     }
 }
 
-// Replays section 0 of a trace on a bank with every capacity `cap`, up to the first wrong record, and gives how many
-// records it did. Every call is lent an empty output.
-#[no_mangle]
-pub extern "C" fn replay_each(cap: u32, store: &mut [u32], file: &[u8], last: &mut [u32]) -> u32 {
-    let mut bank = timing::fresh(cap);
+// The first `n` records, up to a wrong one, and what is told of them. Every call is lent an empty output.
+fn replay_records(b: Bank, store: &mut [u32], records: &[u8], n: usize) -> Told
+    requires { ⌜ 12 * n ≤ length (now records) ⌝ }
+    ensures { λ t. ⌜ (let r = each did wrong n (now (records .entry)) 0 (begun 0 (controller b (now (store .entry)) [])) in (t ≡ r .told) × (now (store .exit) ≡ r .left .store)) ⌝ }
+{
+    let mut bank = b;
     let mut a = Answer {
         value: 0,
         number: 0,
     };
-    let mut done: usize = 0;
     let mut none = [0u32; 0];
-    let records = trace::section(file, 0);
-    for i in 0..records.len() / 12 {
+    for i in 0..n {
         let named = record::at(records, i);
         let Parsed::Named(call) = named else {
-            break;
+            return Told {
+                number: 27,
+                count: i,
+                answer: a,
+            };
         };
-        done = i + 1;
         let out = step_once(bank, call, store, &mut none);
         bank = out.bank;
         a = out.answer;
     }
-    timing::keep(last, a);
-    (done % 4294967296) as u32
+    Told {
+        number: 0,
+        count: n,
+        answer: a,
+    }
+}
+
+// Replays section 0 of a trace on a bank with every capacity `cap`, and gives how many records it did.
+#[no_mangle]
+pub extern "C" fn replay_each(cap: u32, store: &mut [u32], file: &[u8], last: &mut [u32]) -> u32
+    ensures { λ n. ⌜ (let r = replayOf (now (file .entry)) 0 (length (now (file .entry))) (controller (freshOf cap) (now (store .entry)) []) in (n ≡ r .told .count % 2 ^ 32) × (now (store .exit) ≡ r .left .store) × (now (last .exit) ≡ keptIn (now (last .entry)) (r .told .answer))) ⌝ }
+{
+    let bank = timing::fresh(cap);
+    let records = trace::section(file, 0);
+    // All of them: no section has more records than its file has bytes.
+    let n = record::whole(file.len(), records);
+    let told = replay_records(bank, store, records, n);
+    let answer = told.answer;
+    timing::keep(last, answer);
+    (told.count % 4294967296) as u32
 }

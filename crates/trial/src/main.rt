@@ -5,13 +5,116 @@ ghost use lib.ListN.{length};
 use answer::Out;
 use bank::Answer;
 use bank::Bank;
+use bank::Sizes;
+use letters::Parsed;
 use lines::Reading;
 use model::Call;
-use setups::Numbers;
 
-mod bursts;
-mod setups;
+// ── A line, byte by byte ───────────────────────────────────────────────────────────────────────────────────────
+// Set-up: `B`, five capacities, five watermarks and the ID, one space between fields.
+const SET_UP: u8 = b'B';
 
+// The trigger of an offload burst.
+const TRIGGER: u8 = b'G';
+
+// `O` and how many words of the output are lent from now on.
+const LEND: u8 = b'O';
+
+// `P` and the place of a word of the output.
+const SHOW: u8 = b'P';
+
+// No letter: that of a line which can be none of these any more, as in `lines`.
+const DEAD: u8 = 1;
+
+// A line so far.
+struct Line {
+    // The letter and the field at hand, read by `lines` as those of a call are.
+    reading: Reading,
+    // Of a set-up, which field that is, and the values of those before it. The letter is field 0 and takes no digit.
+    at: usize,
+    values: [u32; 11],
+}
+
+// A line before its first byte.
+fn begin() -> Line {
+    Line {
+        reading: lines::begin(),
+        at: 0,
+        values: [0u32; 11],
+    }
+}
+
+// A line with its letter, and the most digits of its field.
+fn lettered(letter: u8, digits: u8) -> Reading {
+    let mut r = lines::begin();
+    r.letter = letter;
+    r.next = digits;
+    r
+}
+
+// The first byte of a line.
+fn letter(b: u8) -> Reading {
+    match b {
+        SET_UP => lettered(SET_UP, 0),
+        TRIGGER => lettered(TRIGGER, 0),
+        LEND => lettered(LEND, 2),
+        SHOW => lettered(SHOW, 1),
+        _ => lines::eat(lines::begin(), b),
+    }
+}
+
+// A field of a set-up before its first digit.
+fn field() -> Reading {
+    let mut r = lettered(SET_UP, 0);
+    r.room = 8;
+    r.bare = true;
+    r
+}
+
+// The next field of a set-up begins.
+fn space(line: Line) -> Line {
+    let r = line.reading;
+    let at = line.at;
+    let mut next = line;
+    if r.bare {
+        next.reading = lettered(DEAD, 0);
+        return next;
+    }
+    if 11 <= at {
+        next.reading = lettered(DEAD, 0);
+        return next;
+    }
+    next.values[at] = r.value;
+    next.at = at + 1;
+    next.reading = field();
+    next
+}
+
+// One byte of a line.
+fn eat(line: Line, b: u8) -> Line {
+    let r = line.reading;
+    let mut next = line;
+    if r.letter == 0 {
+        next.reading = letter(b);
+        return next;
+    }
+    if (r.letter == SET_UP) & (b == b' ') {
+        return space(line);
+    }
+    next.reading = lines::eat(r, b);
+    next
+}
+
+// The letter of a line that ends here, where all its fields are there; else 0.
+fn named(line: Line) -> u8 {
+    let r = line.reading;
+    if r.bare | (r.next != 0) | ((r.letter == SET_UP) & (line.at != 11)) {
+        return 0;
+    }
+    r.letter
+}
+
+// ── What a line does ───────────────────────────────────────────────────────────────────────────────────────────
 // A bank, the words of the output, and how many of them are lent to every call.
 struct Board {
     bank: Bank,
@@ -19,52 +122,55 @@ struct Board {
     lent: usize,
 }
 
-// A line so far, as what each of the three readers makes of it.
-struct Line {
-    call: Reading,
-    numbers: Numbers,
-    burst: Reading,
-}
-
-// The board after a line, and how many bytes of the text are filled.
+// The board after a line, and the answer that is printed, if any.
 struct Ended {
     board: Board,
-    count: usize,
+    said: bool,
+    answer: Answer,
 }
 
-// The board and the line so far, and how many bytes of the text are filled.
-struct Fed {
-    board: Board,
-    line: Line,
-    count: usize,
-}
-
-// The board and the line so far; whether there may be more to read; whether all text was written.
-struct Went {
-    board: Board,
-    line: Line,
-    more: bool,
-    written: bool,
-}
-
-// A line before its first byte.
-fn begin() -> Line {
-    Line {
-        call: lines::begin(),
-        numbers: setups::begin(),
-        burst: lines::begin(),
+fn answered(board: Board, a: Answer) -> Ended {
+    Ended {
+        board: board,
+        said: true,
+        answer: a,
     }
 }
 
-fn eat(line: Line, b: u8) -> Line {
-    let c = line.call;
-    let n = line.numbers;
-    let r = line.burst;
-    Line {
-        call: lines::eat(c, b),
-        numbers: setups::eat(n, b),
-        burst: bursts::eat(r, b),
+fn silent(board: Board) -> Ended {
+    let a = Answer {
+        value: 0,
+        number: 0,
+    };
+    Ended {
+        board: board,
+        said: false,
+        answer: a,
     }
+}
+
+// A set-up. Store and output stay as they are.
+fn set_up(board: Board, line: Line) -> Ended {
+    let v = line.values;
+    let caps = Sizes {
+        cmd: v[1],
+        cmdr: v[2],
+        sdo: v[3],
+        sdi: v[4],
+        ibi: v[5],
+    };
+    let marks = Sizes {
+        cmd: v[6],
+        cmdr: v[7],
+        sdo: v[8],
+        sdi: v[9],
+        ibi: v[10],
+    };
+    let s = setup::set_up(caps, marks, line.reading.value);
+    let b = s.bank;
+    let mut next = board;
+    next.bank = b;
+    answered(next, s.answer)
 }
 
 // A number of words, where there are so many. The test is for the proof.
@@ -87,131 +193,82 @@ fn lent(b: Bank, most: usize) -> usize
     within(n, most)
 }
 
-// A line of text, from a place on.
-fn say(board: Board, a: Answer, out: &mut [u8], at: usize) -> Ended
-    requires { ⌜ at + 12 ≤ length (now out) ⌝ }
-    ensures { λ r. ⌜ r .count ≤ at + 12 ⌝ }
-{
-    let text = print::line(a);
-    bytes::copy(&text, &mut out[at..]);
-    Ended {
-        board: board,
-        count: at + 12,
-    }
-}
-
-// A set-up line ends. Store and output stay as they are.
-fn set_up(board: Board, numbers: Numbers, out: &mut [u8], at: usize) -> Ended
-    requires { ⌜ at + 12 ≤ length (now out) ⌝ }
-    ensures { λ r. ⌜ r .count ≤ at + 12 ⌝ }
-{
-    let s = setups::set_up(numbers);
-    let b = s.bank;
-    let mut next = board;
-    next.bank = b;
-    say(next, s.answer, out, at)
-}
-
-// The trigger, on the words that are lent.
-fn trigger_on(b: Bank, store: &mut [u32], output: &mut [u32], words: usize) -> Out {
+// A call, on the words that are lent.
+fn call_on(b: Bank, store: &mut [u32], output: &mut [u32], words: usize, c: Call) -> Out {
     let n = lent(b, store.len());
     let m = within(words, output.len());
-    controller::step(b, &mut store[..n], &mut output[..m], Call::Trigger)
+    controller::step(b, &mut store[..n], &mut output[..m], c)
 }
 
-// The line of the trigger ends.
-fn trigger(board: Board, store: &mut [u32], out: &mut [u8], at: usize) -> Ended
-    requires { ⌜ at + 12 ≤ length (now out) ⌝ }
-    ensures { λ r. ⌜ r .count ≤ at + 12 ⌝ }
-{
+fn call(board: Board, store: &mut [u32], c: Call) -> Ended {
     let mut words = board.words;
-    let y = trigger_on(board.bank, store, &mut words, board.lent);
+    let y = call_on(board.bank, store, &mut words, board.lent, c);
     let b = y.bank;
     let mut next = board;
     next.bank = b;
     next.words = words;
-    say(next, y.answer, out, at)
+    answered(next, y.answer)
+}
+
+// A line of 01.
+fn session_line(board: Board, store: &mut [u32], r: Reading) -> Ended {
+    match lines::named(r) {
+        Parsed::Named(c) => call(board, store, c),
+        Parsed::Skipped => silent(board),
+    }
 }
 
 // All words of the output are set to 0xffffffff, and the first `n` are lent from now on; nothing where there are fewer.
-fn lend(board: Board, n: u32, at: usize) -> Ended
-    ensures { λ r. ⌜ r .count ≤ at ⌝ }
-{
+fn lend(board: Board, n: u32) -> Ended {
     let mut next = board;
     if n <= 16 {
         next.words = [0xffff_ffff; 16];
         next.lent = n as usize;
     }
-    Ended {
-        board: next,
-        count: at,
-    }
+    silent(next)
 }
 
 // A word of the output.
-fn show(board: Board, place: u32, out: &mut [u8], at: usize) -> Ended
-    requires { ⌜ at + 12 ≤ length (now out) ⌝ }
-    ensures { λ r. ⌜ r .count ≤ at + 12 ⌝ }
-{
+fn show(board: Board, place: u32) -> Ended {
     let words = board.words;
     let a = Answer {
         value: words[(place % 16) as usize],
         number: 0,
     };
-    say(board, a, out, at)
-}
-
-// A line of 01, on the words that are lent.
-fn call_on(
-    b: Bank,
-    store: &mut [u32],
-    output: &mut [u32],
-    words: usize,
-    line: Reading,
-    out: &mut [u8],
-    at: usize,
-) -> sessions::Ended
-    requires { ⌜ at + 12 ≤ length (now out) ⌝ }
-    ensures { λ r. ⌜ r .count ≤ at + 12 ⌝ }
-{
-    let n = lent(b, store.len());
-    let m = within(words, output.len());
-    sessions::end_line(b, &mut store[..n], &mut output[..m], line, out, at)
-}
-
-// A line of 01 ends.
-fn call(board: Board, store: &mut [u32], line: Reading, out: &mut [u8], at: usize) -> Ended
-    requires { ⌜ at + 12 ≤ length (now out) ⌝ }
-    ensures { λ r. ⌜ r .count ≤ at + 12 ⌝ }
-{
-    let mut words = board.words;
-    let e = call_on(board.bank, store, &mut words, board.lent, line, out, at);
-    let b = e.bank;
-    let mut next = board;
-    next.bank = b;
-    next.words = words;
-    Ended {
-        board: next,
-        count: e.count,
-    }
+    answered(board, a)
 }
 
 // A line ends, at a newline or at the end of the input.
-fn end_line(board: Board, store: &mut [u32], line: Line, out: &mut [u8], at: usize) -> Ended
+fn end_line(board: Board, store: &mut [u32], line: Line) -> Ended {
+    let r = line.reading;
+    match named(line) {
+        SET_UP => set_up(board, line),
+        TRIGGER => call(board, store, Call::Trigger),
+        LEND => lend(board, r.value),
+        SHOW => show(board, r.value),
+        _ => session_line(board, store, r),
+    }
+}
+
+// ── Input and text ─────────────────────────────────────────────────────────────────────────────────────────────
+// The line of an answer, if any, from a place on; gives where the text ends.
+fn put(said: bool, a: Answer, out: &mut [u8], at: usize) -> usize
     requires { ⌜ at + 12 ≤ length (now out) ⌝ }
-    ensures { λ r. ⌜ r .count ≤ at + 12 ⌝ }
+    ensures { λ n. ⌜ n ≤ at + 12 ⌝ }
 {
-    let numbers = line.numbers;
-    if setups::complete(numbers) {
-        return set_up(board, numbers, out, at);
+    if !said {
+        return at;
     }
-    let r = line.burst;
-    match bursts::named(r) {
-        bursts::TRIGGER => trigger(board, store, out, at),
-        bursts::LEND => lend(board, r.value, at),
-        bursts::SHOW => show(board, r.value, out, at),
-        _ => call(board, store, line.call, out, at),
-    }
+    let text = print::line(a);
+    print::put(out, at, text);
+    at + 12
+}
+
+// The board and the line so far, and how many bytes of the text are filled.
+struct Fed {
+    board: Board,
+    line: Line,
+    count: usize,
 }
 
 // A piece of the input. The text has room for a line a byte.
@@ -228,9 +285,9 @@ fn feed(board: Board, store: &mut [u32], line: Line, piece: &[u8], out: &mut [u8
             so_far = eat(so_far, byte);
             continue;
         }
-        let e = end_line(after, store, so_far, out, count);
+        let e = end_line(after, store, so_far);
         after = e.board;
-        count = e.count;
+        count = put(e.said, e.answer, out, count);
         so_far = begin();
     }
     Fed {
@@ -238,6 +295,14 @@ fn feed(board: Board, store: &mut [u32], line: Line, piece: &[u8], out: &mut [u8
         line: so_far,
         count: count,
     }
+}
+
+// The board and the line so far; whether there may be more to read; whether all text was written.
+struct Went {
+    board: Board,
+    line: Line,
+    more: bool,
+    written: bool,
 }
 
 // The next piece of the input.
@@ -272,8 +337,8 @@ fn turn(board: Board, line: Line, store: &mut [u32], out: &mut [u8]) -> Went
 fn end(board: Board, line: Line, store: &mut [u32], out: &mut [u8])
     requires { ⌜ 12 ≤ length (now out) ⌝ }
 {
-    let e = end_line(board, store, line, out, 0);
-    let m = e.count;
+    let e = end_line(board, store, line);
+    let m = put(e.said, e.answer, out, 0);
     io::write_all(1, &out[..m]);
 }
 

@@ -57,6 +57,32 @@ impl Memory {
         assert_eq!(after.step(numbers), u64::from(number) << 32, "{numbers:x?}");
         assert!(after == *self, "{numbers:x?} left a mark");
     }
+
+    /// A replay on words that are no image has each record answered 21 up to a wrong one or the
+    /// limit, and leaves no mark; a wrong file is refused as always, and nothing is told.
+    pub fn replays_nothing(&self) {
+        let file = one_record();
+        let wrong = [
+            b"I3TR\x01\x00\x0e\0\0\0\x02\0\0\0",
+            &file[14..],
+            b"Q\0\0\0\0\0\0\0\0\0\0\0",
+        ];
+        for (file, section, limit, number, expected) in [
+            (&file[..], 0, 9, 0, [1, 0, 21]),
+            (&file, 0, 0, 0, [0, 0, 0]),
+            (&wrong.concat(), 0, 9, 27, [1, 0, 21]),
+            (&file[..3], 0, 9, 24, [FILL; 3]),
+            (&file[..25], 0, 9, 25, [FILL; 3]),
+            (&file, 1, 9, 26, [FILL; 3]),
+        ] {
+            let mut after = self.clone();
+            let mut told = [FILL; 3];
+            let (image, store) = (&mut after.image, &mut after.store);
+            let made = raw::replay(image, store, file, section, limit, &mut told);
+            assert_eq!((made, told), (number, expected));
+            assert!(after == *self, "a replay left a mark");
+        }
+    }
 }
 
 /// A trace of one section with one record: a register is written.

@@ -36,8 +36,8 @@ cast-k c = let a = c .before .before .before .before .before in
     let b = at-most-fifteen (a .args .st) (a .args .commands .now) (a .pre .0) (a .pre .1) in
     omega (arith, b .0)
 
-sub-reads-in : tie.Need-sub-reads-in
-sub-reads-in c = let a = c .before .before .before .before .before in
+sub-passed : tie.Need-sub-passed
+sub-passed c = let a = c .before .before .before .before .before in
     let b = at-most-fifteen (a .args .st) (a .args .commands .now) (a .pre .0) (a .pre .1) in
     omega (arith, b .1)
 
@@ -104,7 +104,7 @@ finish-spec =
     transfer-of-requires
     stage-of-requires
     cast-k
-    sub-reads-in
+    sub-passed
     reads-in-requires
     cast-place
     span-of-requires

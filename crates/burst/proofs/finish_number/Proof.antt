@@ -1,6 +1,6 @@
 -- `burst::finish_number` meets its contract.
 use Rattle.model.specs.Bursts.{burstFinish}
-use Rattle.burst.proofs.Laws.{short-is}
+use Rattle.trigger.proofs.Within.{short-is}
 use borrow.Author.Needs.{needs}
 use Rattle.burst.proofs.finish_number.Statement.{statement}
 use Rattle.burst.proofs.finish_number.Tie as tie
@@ -14,22 +14,19 @@ is-allowed-requires c κs = search needs
 select-requires : tie.Need-select-requires
 select-requires c κs = search needs
 
-select-requires-2 : tie.Need-select-requires-2
-select-requires-2 c κs = search needs
-
-select-requires-3 : tie.Need-select-requires-3
-select-requires-3 c κs = search needs
+while-open-requires : tie.Need-while-open-requires
+while-open-requires c κs = search needs
 
 is-lacking-requires : tie.Need-is-lacking-requires
 is-lacking-requires c κs = search needs
 
-select-requires-4 : tie.Need-select-requires-4
-select-requires-4 c κs = search needs
+select-requires-2 : tie.Need-select-requires-2
+select-requires-2 c κs = search needs
 
 returns : tie.Need-returns
 unfolding burstFinish
-returns c = λ a p o f h. let n = c .before .before .before .before .before .before .before in
-    rw (c .select4 .ensures, c .before .is-lacking .ensures, c .before .before .select3 .ensures, c .before .before .before .select2 .ensures, c .before .before .before .before .select .ensures, c .before .before .before .before .before .is-allowed .ensures, c .before .before .before .before .before .before .stage-of .ensures, short-is (n .args .st) a (n .args .commands .now) p o f (n .args .len) (n .pre) h)
+returns c = λ a p o f h. let n = c .before .before .before .before .before .before in
+    rw (c .select2 .ensures, c .before .is-lacking .ensures, c .before .before .while-open .ensures, c .before .before .before .select .ensures, c .before .before .before .before .is-allowed .ensures, c .before .before .before .before .before .stage-of .ensures, short-is (n .args .st) a (n .args .commands .now) p o f (n .args .len) (n .pre) h)
 
 pub finish-number-spec : {M : Type 1} → statement M
 finish-number-spec =
@@ -38,8 +35,7 @@ finish-number-spec =
     stage-of-requires
     is-allowed-requires
     select-requires
-    select-requires-2
-    select-requires-3
+    while-open-requires
     is-lacking-requires
-    select-requires-4
+    select-requires-2
     returns)

@@ -9,7 +9,8 @@ use Rattle.model.specs.Decision.{_⇒_∣_}
 use Rattle.model.specs.Bursts.{short, burstReceive}
 use Rattle.effect.specs.Seen.{seen}
 use Rattle.effect.proofs.Laws.{refused-as, noFronts}
-use Rattle.burst.proofs.Laws.{below-four, gathered-part, lent, receives, received}
+use Rattle.trigger.proofs.Within.{lent}
+use Rattle.burst.proofs.Laws.{below-four, gathered-part, receives, received}
 use borrow.Author.Needs.{needs}
 use Rattle.burst.proofs.receive.Statement.{statement}
 use Rattle.burst.proofs.receive.Tie as tie

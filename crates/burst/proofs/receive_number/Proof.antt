@@ -1,6 +1,6 @@
 -- `burst::receive_number` meets its contract.
 use Rattle.model.specs.Bursts.{burstReceive}
-use Rattle.burst.proofs.Laws.{short-is}
+use Rattle.trigger.proofs.Within.{short-is}
 use borrow.Author.Needs.{needs}
 use Rattle.burst.proofs.receive_number.Statement.{statement}
 use Rattle.burst.proofs.receive_number.Tie as tie

@@ -9,7 +9,8 @@ use Rattle.model.specs.Decision.{_⇒_∣_}
 use Rattle.model.specs.Bursts.{short, burstSend}
 use Rattle.effect.specs.Seen.{seen}
 use Rattle.effect.proofs.Laws.{refused-as, noFronts}
-use Rattle.burst.proofs.Laws.{at-most-fifteen, below-four, lent, sends, sent}
+use Rattle.trigger.proofs.Within.{lent}
+use Rattle.burst.proofs.Laws.{at-most-fifteen, below-four, sends, sent}
 use borrow.Author.Needs.{needs}
 use Rattle.burst.proofs.send.Statement.{statement}
 use Rattle.burst.proofs.send.Tie as tie

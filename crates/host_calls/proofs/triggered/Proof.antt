@@ -3,8 +3,7 @@ use Rattle.host_calls.proofs.Unsettled.{unsettled}
 use Rattle.host_calls.specs.Outs.{settledOut}
 use Rattle.rings.specs.Fronts.{fronts}
 use Rattle.offload.proofs.Barred.{bars-trigger}
-use Rattle.burst.proofs.Within.{never-short}
-use Rattle.burst.proofs.Laws.{short-is}
+use Rattle.trigger.proofs.Within.{never-short, short-is}
 use Rattle.effect.proofs.Laws.{past}
 use Rattle.effect.specs.Seen.{seen}
 use Rattle.faults.proofs.Guards.{both, refuses}

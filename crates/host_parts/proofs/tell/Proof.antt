@@ -1,11 +1,18 @@
 -- `host_parts::tell` meets its contract.
 use borrow.Author.Needs.{needs}
+use borrow.Author.Tests.{not-true, not-false}
 use mathlib.Core.Path.{refl, ap, _∙_}
 use Prim.Native.Nat.{ℕ}
 use mathlib.Core.List.{List}
 use lib.ListN.{set}
+use Rattle.host_model.proofs.Hosting.{untold, is-told}
 use Rattle.host_parts.proofs.tell.Statement.{statement}
 use Rattle.host_parts.proofs.tell.Tie as tie
+
+returns : tie.Need-returns
+returns c =
+    let a = c .before .before .args in
+    (refl, untold (a .t) (a .told .now) (not-true _ (c .if1 .taken)))
 
 cast-put : tie.Need-cast-put
 cast-put c = search needs
@@ -22,13 +29,17 @@ put-requires-3 c κs = search needs
 same-length : tie.Need-same-length
 same-length c = search needs
 
-returns : tie.Need-returns
-returns c =
-    let t = c .before .before .before .before .before .before .before .before .before .before .before .before .before .before .args .t in (
+returns-2 : tie.Need-returns-2
+returns-2 c =
+    let p = c .before .before .before .before .before .before .before .before .before .before .before .before .before in
+    let a = p .before .before .args in
+    let t = a .t in (
       refl,
-      c .before .before .put3 .ensures ∙ ap (λ (ws : List ℕ). set ws 2 (t .answer .number)) (c .before .before .before .before .before .before .put2 .ensures ∙ ap (λ (ws : List ℕ). set ws 1 (t .answer .value)) (c .before .before .before .before .before .before .before .before .before .before .put .ensures)),
+      c .before .before .put3 .ensures ∙ ap (λ (ws : List ℕ). set ws 2 (t .answer .number)) (c .before .before .before .before .before .before .put2 .ensures ∙ ap (λ (ws : List ℕ). set ws 1 (t .answer .value)) (c .before .before .before .before .before .before .before .before .before .before .put .ensures))
+          ∙ is-told t (a .told .now) (not-false _ (p .if1 .left)),
     )
 
 pub tell-spec : {M : Type 1} → statement M
 tell-spec =
-    tie.close (tie.spec cast-put put-requires put-requires-2 put-requires-3 same-length returns)
+    tie.close
+    (tie.spec returns cast-put put-requires put-requires-2 put-requires-3 same-length returns-2)

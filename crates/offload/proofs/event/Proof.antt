@@ -1,8 +1,7 @@
 -- `offload::event` meets its contract.
 use Rattle.model.specs.declared.Call.the-variants.{Finish, Interrupt}
 use Rattle.offload.proofs.Barred.{bars-start, bars-interrupt, bars-request, bars-take, bars-trigger}
-use Rattle.burst.proofs.Within.{inside}
-use Rattle.burst.proofs.Laws.{short-is}
+use Rattle.trigger.proofs.Within.{inside, short-is}
 use Rattle.effect.proofs.Laws.{past, called}
 use Rattle.effect.specs.Seen.{seen}
 use Rattle.model.proofs.Open.{in-burst}

@@ -1,7 +1,7 @@
 -- `outside::call` meets its contract.
 use Rattle.outside.proofs.Events.{no-burst}
 use Rattle.rings.specs.Fronts.{fronts}
-use Rattle.burst.proofs.Within.{never-short, outside}
+use Rattle.trigger.proofs.Within.{never-short, outside}
 use Rattle.effect.proofs.Laws.{past, called}
 use Rattle.effect.specs.Effects.{verdict}
 use Rattle.answer.proofs.Laws.{ready-of}

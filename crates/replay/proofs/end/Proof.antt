@@ -8,14 +8,14 @@ use Rattle.replay.proofs.end.Tie as tie
 end-requires : tie.Need-end-requires
 end-requires c κs = search needs
 
-slice-reshare-prefix-write-all : tie.Need-slice-reshare-prefix-write-all
-slice-reshare-prefix-write-all c = search needs
+slice-reshare-prefix-write-counted : tie.Need-slice-reshare-prefix-write-counted
+slice-reshare-prefix-write-counted c = search needs
 
-slice-aggregate-write-all : tie.Need-slice-aggregate-write-all
-slice-aggregate-write-all c = simp length-take (omega (arith, c .before .before .before .end .ensures .1))
+slice-aggregate-write-counted : tie.Need-slice-aggregate-write-counted
+slice-aggregate-write-counted c = simp length-take (omega (arith, c .before .before .before .end .ensures .1))
 
-write-all-requires : tie.Need-write-all-requires
-write-all-requires c κs = search needs
+write-counted-requires : tie.Need-write-counted-requires
+write-counted-requires c κs = search needs
 
 same-length : tie.Need-same-length
 same-length c = search needs
@@ -28,8 +28,8 @@ end-spec =
     tie.close
     (tie.spec
     end-requires
-    slice-reshare-prefix-write-all
-    slice-aggregate-write-all
-    write-all-requires
+    slice-reshare-prefix-write-counted
+    slice-aggregate-write-counted
+    write-counted-requires
     same-length
     returns)

@@ -7,10 +7,11 @@ use Rattle.replay.proofs.main.Statement.{statement}
 use Rattle.replay.proofs.main.Tie as tie
 
 abbrev Inv-loop : tie.InvT-loop
-Inv-loop store₀ buf₀ out₀ bank₀ stage₀ held₀ written₀ more₀ turns₀ store buf out bank stage held written more turns = (24576 ≡ length buf) × (24588 ≡ length out) × (20 ≡ length store) × (held < 518)
+Inv-loop store₀ buf₀ out₀ bank₀ stage₀ held₀ answers₀ readable₀ written₀ more₀ turns₀ store buf out bank stage held answers readable written more turns =
+    (24576 ≡ length buf) × (24588 ≡ length out) × (20 ≡ length store) × (held < 518)
 
 abbrev μ-loop : tie.MeasureT-loop
-μ-loop store₀ buf₀ out₀ bank₀ stage₀ held₀ written₀ more₀ turns₀ store buf out bank stage held written more turns = turns
+μ-loop store₀ buf₀ out₀ bank₀ stage₀ held₀ answers₀ readable₀ written₀ more₀ turns₀ store buf out bank stage held answers readable written more turns = turns
 
 session-bank-requires : tie.Need-session-bank-requires Inv-loop μ-loop
 session-bank-requires c κs = search needs
@@ -48,6 +49,12 @@ slice-aggregate-end c = search needs
 end-requires : tie.Need-end-requires Inv-loop μ-loop
 end-requires c κs = search needs
 
+input-failed-requires : tie.Need-input-failed-requires Inv-loop μ-loop
+input-failed-requires c κs = search needs
+
+output-failed-requires : tie.Need-output-failed-requires Inv-loop μ-loop
+output-failed-requires c κs = search needs
+
 returns-2 : tie.Need-returns-2 Inv-loop μ-loop
 returns-2 c = search needs
 
@@ -72,5 +79,7 @@ main-spec =
     loop-again
     slice-aggregate-end
     end-requires
+    input-failed-requires
+    output-failed-requires
     returns-2
     returns-3)

@@ -28,24 +28,24 @@ feed-requires c κs =
     let a = c .before .before .before .before .before .before .before .before .before .before .before in
     let f = c .before .before .before .before .before .before .fill in
     let kept : length (f .last .0) ≡ length (a .args .buf .now) = search needs in
-    let long = length-take-le (f .result) (f .last .0) (f .ensures .1) in
+    let long = length-take-le (f .result .have) (f .last .0) (f .ensures .1) in
     omega (arith, long, kept, f .ensures .1, a .pre .1, a .pre .2)
 
-slice-reshare-prefix-write-all : tie.Need-slice-reshare-prefix-write-all
-slice-reshare-prefix-write-all c = search needs
+slice-reshare-prefix-write-counted : tie.Need-slice-reshare-prefix-write-counted
+slice-reshare-prefix-write-counted c = search needs
 
-slice-aggregate-write-all : tie.Need-slice-aggregate-write-all
-slice-aggregate-write-all c = simp length-take (omega (arith, c .before .before .before .before .before .feed .ensures .1))
+slice-aggregate-write-counted : tie.Need-slice-aggregate-write-counted
+slice-aggregate-write-counted c = simp length-take (omega (arith, c .before .before .before .before .before .feed .ensures .1))
 
-write-all-requires : tie.Need-write-all-requires
-write-all-requires c κs = search needs
+write-counted-requires : tie.Need-write-counted-requires
+write-counted-requires c κs = search needs
 
 sub-rest : tie.Need-sub-rest
 sub-rest c =
     let a = c .before .before .before .before .before .before .before .before .before .before .before .before .before .before .before .before .before .before in
     let f = c .before .before .before .before .before .before .before .before .before .before .before .before .before .fill in
     let kept : length (f .last .0) ≡ length (a .args .buf .now) = search needs in
-    let long = length-take-le (f .result) (f .last .0) (f .ensures .1) in
+    let long = length-take-le (f .result .have) (f .last .0) (f .ensures .1) in
     omega (arith, long, c .before .before .before .before .before .before .feed .ensures .2)
 
 shift-requires : tie.Need-shift-requires
@@ -53,8 +53,11 @@ shift-requires c κs =
     let a = c .before .before .before .before .before .before .before .before .before .before .before .before .before .before .before .before .before .before .before in
     let f = c .before .before .before .before .before .before .before .before .before .before .before .before .before .before .fill in
     let kept : length (f .last .0) ≡ length (a .args .buf .now) = search needs in
-    let long = length-take-le (f .result) (f .last .0) (f .ensures .1) in
+    let long = length-take-le (f .result .have) (f .last .0) (f .ensures .1) in
     omega (arith, long, f .ensures .1, c .before .before .before .before .before .before .before .feed .ensures .2)
+
+counted-requires : tie.Need-counted-requires
+counted-requires c κs = search needs
 
 over-requires : tie.Need-over-requires
 over-requires c κs = search needs
@@ -70,9 +73,9 @@ same-length-4 c = search needs
 
 returns-2 : tie.Need-returns-2
 returns-2 c =
-    let f = c .before .before .before .before .before .before .before .before .before .before .before .before .before .before .before .before .before .before .before .fill in
-    let long = length-take-le (f .result) (f .last .0) (f .ensures .1) in
-    omega (arith, long, c .before .before .before .before .before .before .before .before .before .before .before .before .feed .ensures .3, c .before .before .before .before .before .before .before .before .before .before .before .before .feed .ensures .2)
+    let f = c .before .before .before .before .before .before .before .before .before .before .before .before .before .before .before .before .before .before .before .before .fill in
+    let long = length-take-le (f .result .have) (f .last .0) (f .ensures .1) in
+    omega (arith, long, c .before .before .before .before .before .before .before .before .before .before .before .before .before .feed .ensures .3, c .before .before .before .before .before .before .before .before .before .before .before .before .before .feed .ensures .2)
 
 pub turn-spec : {M : Type 1} → statement M
 turn-spec =
@@ -84,11 +87,12 @@ turn-spec =
     slice-reshare-prefix-feed
     slice-aggregate-feed
     feed-requires
-    slice-reshare-prefix-write-all
-    slice-aggregate-write-all
-    write-all-requires
+    slice-reshare-prefix-write-counted
+    slice-aggregate-write-counted
+    write-counted-requires
     sub-rest
     shift-requires
+    counted-requires
     over-requires
     same-length-2
     same-length-3

@@ -6,10 +6,10 @@ use Rattle.session.proofs.main.Statement.{statement}
 use Rattle.session.proofs.main.Tie as tie
 
 abbrev Inv-loop : tie.InvT-loop
-Inv-loop store₀ out₀ bank₀ line₀ written₀ more₀ turns₀ store out bank line written more turns = (65536 ≡ length out) × (20 ≡ length store)
+Inv-loop store₀ out₀ bank₀ line₀ answers₀ readable₀ written₀ more₀ turns₀ store out bank line answers readable written more turns = (65536 ≡ length out) × (20 ≡ length store)
 
 abbrev μ-loop : tie.MeasureT-loop
-μ-loop store₀ out₀ bank₀ line₀ written₀ more₀ turns₀ store out bank line written more turns = turns
+μ-loop store₀ out₀ bank₀ line₀ answers₀ readable₀ written₀ more₀ turns₀ store out bank line answers readable written more turns = turns
 
 large-buffer-requires : tie.Need-large-buffer-requires Inv-loop μ-loop
 large-buffer-requires c κs = search needs
@@ -44,6 +44,12 @@ loop-less c = search needs
 loop-again : tie.Need-loop-again Inv-loop μ-loop
 loop-again c = search needs
 
+input-failed-requires : tie.Need-input-failed-requires Inv-loop μ-loop
+input-failed-requires c κs = search needs
+
+returns-2 : tie.Need-returns-2 Inv-loop μ-loop
+returns-2 c = search needs
+
 slice-aggregate-end : tie.Need-slice-aggregate-end Inv-loop μ-loop
 slice-aggregate-end c = search needs
 
@@ -53,11 +59,14 @@ slice-aggregate-end-2 c = search needs
 end-requires : tie.Need-end-requires Inv-loop μ-loop
 end-requires c κs = search needs
 
-returns-2 : tie.Need-returns-2 Inv-loop μ-loop
-returns-2 c = search needs
+output-failed-requires : tie.Need-output-failed-requires Inv-loop μ-loop
+output-failed-requires c κs = search needs
 
 returns-3 : tie.Need-returns-3 Inv-loop μ-loop
 returns-3 c = search needs
+
+returns-4 : tie.Need-returns-4 Inv-loop μ-loop
+returns-4 c = search needs
 
 pub main-spec : {M : Type 1} → statement M
 main-spec =
@@ -76,8 +85,11 @@ main-spec =
     turn-requires
     loop-less
     loop-again
+    input-failed-requires
+    returns-2
     slice-aggregate-end
     slice-aggregate-end-2
     end-requires
-    returns-2
-    returns-3)
+    output-failed-requires
+    returns-3
+    returns-4)

@@ -1,87 +1,83 @@
--- `timing_each::replay_each` is safe and ends.
-use borrow.Author.Needs.{needs}
-use Prim.Native.Nat.{_-_, _*_, _/_, _≤_, _<_}
-use mathlib.Core.Path.{_≡_}
+-- `timing_each::replay_each` meets its contract.
+use Prim.Native.Nat.{ℕ, zero, suc, _*_, _%_, _^_, _≤_}
+use native.Mathlib.Omega.{arith}
+use mathlib.Core.Path.{_≡_, refl, ap, sym, _∙_}
+use mathlib.Core.List.{List, []}
 use lib.ListN.{length}
+use borrow.Author.Needs.{needs}
+use Rattle.bank.specs.declared.Bank.{Bank}
+use Rattle.model.specs.Rings.{Controller}
+use Rattle.answer.specs.Given.{controller}
+use Rattle.trace_model.specs.Format.{lookNumber, section}
+use Rattle.trace_model.proofs.Sections.{refused}
+use Rattle.record_model.specs.Record.{each, within}
+use Rattle.playback_model.specs.declared.Told.{Told}
+use Rattle.playback_model.specs.Replay.{Replay, telling, begun, did, wrong, replayOf}
+use Rattle.playback_model.proofs.Laws.{refuses, plays}
+use Rattle.timing.specs.Timing.{keptIn}
 use Rattle.timing_each.proofs.replay_each.Statement.{statement}
 use Rattle.timing_each.proofs.replay_each.Tie as tie
 
-abbrev Inv-loop : tie.InvT-loop
-Inv-loop cap store₀ file last bank₀ a₀ done₀ none₀ records i₀ i-end store bank a done none i =
-    (i ≤ i-end) × (12 * i-end ≤ length records) × (i-end < 18446744073709551616) × (length store ≡ length store₀) × (length none ≡ 0)
+-- a replay but for its number
+abbrev unnumbered : Replay → Replay
+unnumbered r = telling 0 (r .told .count) (r .told .answer) (r .left)
 
-abbrev μ-loop : tie.MeasureT-loop
-μ-loop cap store₀ file last bank₀ a₀ done₀ none₀ records i₀ i-end store bank a done none i = i-end - i
+-- the section's records make the replay but for its number: a section that is refused has none
+same : (file bytes : List ℕ) (l : Controller) (n x : ℕ) → x ≡ lookNumber file 0 → bytes ≡ section file 0 → n ≡ within (length file) bytes → 12 * n ≤ length bytes
+    → unnumbered (each did wrong n bytes 0 (begun 0 l)) ≡ unnumbered (replayOf file 0 (length file) l)
+unfolding each
+same file bytes l n zero e s w h = ap (λ (m : ℕ). unnumbered (each did wrong m bytes 0 (begun 0 l))) w ∙ ap unnumbered (plays file 0 (length file) l bytes s (sym e))
+same file bytes l n (suc x) e s w h =
+    let wrong-file : suc x ≡ 0 → ⊥ = λ p. omega (arith, p) in
+    let none : length bytes ≡ 0 = ap length (s ∙ sym (refused file 0 (suc x) e wrong-file .0)) in
+    let z : n ≡ 0 = omega (arith, h, none) in
+    ap (λ (m : ℕ). unnumbered (each did wrong m bytes 0 (begun 0 l))) z ∙ ap unnumbered (refuses file 0 (length file) l (suc x) e wrong-file)
 
-fresh-requires : tie.Need-fresh-requires Inv-loop μ-loop
+fresh-requires : tie.Need-fresh-requires
 fresh-requires c κs = search needs
 
-section-requires : tie.Need-section-requires Inv-loop μ-loop
+section-requires : tie.Need-section-requires
 section-requires c κs = search needs
 
-loop-holds : tie.Need-loop-holds Inv-loop μ-loop
-loop-holds c = search needs
+whole-requires : tie.Need-whole-requires
+whole-requires c κs = search needs
 
-at-requires : tie.Need-at-requires Inv-loop μ-loop
-at-requires c κs = search needs
+replay-records-requires : tie.Need-replay-records-requires
+replay-records-requires c κs = search needs
 
-enum-known-named : tie.Need-enum-known-named Inv-loop μ-loop
-enum-known-named c = search needs
-
-enum-told : tie.Need-enum-told Inv-loop μ-loop
-enum-told c = search needs
-
-add-done : tie.Need-add-done Inv-loop μ-loop
-add-done c = search needs
-
-slice-aggregate-step-once : tie.Need-slice-aggregate-step-once Inv-loop μ-loop
-slice-aggregate-step-once c = search needs
-
-step-once-requires : tie.Need-step-once-requires Inv-loop μ-loop
-step-once-requires c κs = search needs
-
-add-i : tie.Need-add-i Inv-loop μ-loop
-add-i c = search needs
-
-loop-less : tie.Need-loop-less Inv-loop μ-loop
-loop-less c = search needs
-
-loop-again : tie.Need-loop-again Inv-loop μ-loop
-loop-again c = search needs
-
-keep-requires : tie.Need-keep-requires Inv-loop μ-loop
+keep-requires : tie.Need-keep-requires
 keep-requires c κs = search needs
 
-cast-result : tie.Need-cast-result Inv-loop μ-loop
+cast-result : tie.Need-cast-result
 cast-result c = search needs
 
-same-length : tie.Need-same-length Inv-loop μ-loop
+same-length : tie.Need-same-length
 same-length c = search needs
 
-same-length-2 : tie.Need-same-length-2 Inv-loop μ-loop
+same-length-2 : tie.Need-same-length-2
 same-length-2 c = search needs
 
-returns : tie.Need-returns Inv-loop μ-loop
-returns c = search needs
+returns : tie.Need-returns
+returns c =
+    let a = c .before .before .before .before .before .before .before .before .before .before .before .before .before .before .before .before .args in
+    let f = c .before .before .before .before .before .before .before .before .before .before .before .before .fresh in
+    let w = c .before .before .before .before .before .before .before .before .before .before .whole .ensures in
+    let t = c .before .before .before .before .before .before .before .before .replay-records .ensures in
+    let e = same (a .file .now) _ (controller (f .result) (a .store .now) []) _ _ refl (c .before .before .before .before .before .before .before .before .before .before .before .section .ensures .0) (w .0) (w .1)
+    ∙ ap (λ (b : Bank). unnumbered (replayOf (a .file .now) 0 (length (a .file .now)) (controller b (a .store .now) []))) (f .ensures) in (
+      ap (λ (x : Told). x .count % 2 ^ 32) (t .0) ∙ ap (λ (x : Replay). x .told .count % 2 ^ 32) e,
+      t .1 ∙ ap (λ (x : Replay). x .left .store) e,
+      c .before .before .before .keep .ensures ∙ ap (λ (x : Told). keptIn (a .last .now) (x .answer)) (t .0) ∙ ap (λ (x : Replay). keptIn (a .last .now) (x .told .answer)) e,
+    )
 
 pub replay-each-spec : {M : Type 1} → statement M
 replay-each-spec =
     tie.close
     (tie.spec
-    Inv-loop
-    μ-loop
     fresh-requires
     section-requires
-    loop-holds
-    at-requires
-    enum-known-named
-    enum-told
-    add-done
-    slice-aggregate-step-once
-    step-once-requires
-    add-i
-    loop-less
-    loop-again
+    whole-requires
+    replay-records-requires
     keep-requires
     cast-result
     same-length

@@ -8,11 +8,14 @@ use Rattle.trial.proofs.end.Tie as tie
 end-line-requires : tie.Need-end-line-requires
 end-line-requires c κs = search needs
 
+put-requires : tie.Need-put-requires
+put-requires c κs = search needs
+
 slice-reshare-prefix-write-all : tie.Need-slice-reshare-prefix-write-all
 slice-reshare-prefix-write-all c = search needs
 
 slice-aggregate-write-all : tie.Need-slice-aggregate-write-all
-slice-aggregate-write-all c = simp length-take (omega (arith, c .before .before .before .before .before .end-line .ensures))
+slice-aggregate-write-all c = simp length-take (omega (arith, c .before .before .before .put .ensures))
 
 write-all-requires : tie.Need-write-all-requires
 write-all-requires c κs = search needs
@@ -31,6 +34,7 @@ end-spec =
     tie.close
     (tie.spec
     end-line-requires
+    put-requires
     slice-reshare-prefix-write-all
     slice-aggregate-write-all
     write-all-requires

@@ -1,7 +1,6 @@
 -- `trial::feed` is safe and ends, and fills at most the text: a line a byte.
 use borrow.Author.Needs.{needs}
 use Prim.Native.Nat.{_-_, _*_, _≤_, _<_}
-use native.Mathlib.Omega.{arith}
 use mathlib.Core.Path.{_≡_}
 use lib.ListN.{length}
 use Rattle.trial.proofs.feed.Statement.{statement}
@@ -36,17 +35,20 @@ loop-again c = search needs
 end-line-requires : tie.Need-end-line-requires Inv-loop μ-loop
 end-line-requires c κs = search needs
 
+put-requires : tie.Need-put-requires Inv-loop μ-loop
+put-requires c κs = search needs
+
 begin-requires : tie.Need-begin-requires Inv-loop μ-loop
 begin-requires c κs = search needs
 
 add-i-2 : tie.Need-add-i-2 Inv-loop μ-loop
-add-i-2 c = let l = c .before .before .before .before .before .before .before .before .before .before .before .before .loop in let n = length (c .before .before .before .before .before .before .before .before .before .before .before .before .before .before .before .before .args .piece .now) in let h : l .i < n = c .before .before .before .before .before .before .before .before .before .before .before .loop-test .taken in let m : n < 18446744073709551616 = l .inv .1 in record { fits = omega (arith, h, m) }
+add-i-2 c = search needs
 
 loop-less-2 : tie.Need-loop-less-2 Inv-loop μ-loop
 loop-less-2 c = search needs
 
 loop-again-2 : tie.Need-loop-again-2 Inv-loop μ-loop
-loop-again-2 c = let l = c .before .before .before .before .before .before .before .before .before .before .before .before .loop in let n = length (c .before .before .before .before .before .before .before .before .before .before .before .before .before .before .before .before .args .piece .now) in let h : l .i < n = c .before .before .before .before .before .before .before .before .before .before .before .loop-test .taken in let e = c .before .before .before .before .before .before .end-line in (omega (arith, h), search needs, search needs, omega (arith, l .inv .3, e .ensures), search needs, search needs, search needs)
+loop-again-2 c = search needs
 
 same-length : tie.Need-same-length Inv-loop μ-loop
 same-length c = search needs
@@ -70,6 +72,7 @@ feed-spec =
     loop-less
     loop-again
     end-line-requires
+    put-requires
     begin-requires
     add-i-2
     loop-less-2

@@ -1,0 +1,103 @@
+// Address requests and address takes of ENTDAA, as decisions.
+ghost use mathlib.Core.Path.{_≡_};
+ghost use mathlib.Core.Bool.{cond};
+ghost use Prim.Native.Nat.{ℕ, _/_, _%_, _^_};
+ghost use lib.Count.{ones};
+ghost use lib.Dec.{eqb};
+ghost use Rattle.bank.specs.declared.Phase.the-variants.{Requested, Answered};
+ghost use Rattle.model.specs.View.{Tables};
+ghost use Rattle.model.specs.Calls.{asked, request, takeAddress};
+ghost use Rattle.effect.specs.Effects.{effectOf, verdict, number};
+ghost use Rattle.effect.specs.Seen.{Fronts, seen};
+use bank::Control;
+use bank::Phase;
+use bank::State;
+use bank::Transfer;
+use bank::phases;
+use effect::Effect;
+use effect::Op;
+
+// Pending bit 7, set where `b` holds.
+fn ask(c: Control, b: bool) -> Control
+    ensures { λ r. ⌜ r ≡ asked b c ⌝ }
+{
+    let mut next = c;
+    next.daapending = c.daapending | b;
+    next
+}
+
+// The number of an address request, 0 where none of its tests holds.
+fn request_number(st: State) -> u32
+    ensures { λ n. ⌜ ((t : Tables) (f : Fronts) (v w : ℕ) → n ≡ number (request (seen st t f) v w)) ⌝ }
+{
+    let p = st.phase;
+    let at = phases::stage_of(p);
+    let barred = !(phases::UNREQUESTED <= at) | (at == phases::REQUESTED);
+    let room = bank::room(st.caps.sdi.0, st.levels.sdi.0);
+    let n = bank::select(room < 2, 13, 0);
+    let n = bank::select(barred, 10, n);
+    effect::while_open(st.control.held, at, n)
+}
+
+// An address request of a device, whose two words go to SDI.
+pub fn request(st: State, x: u32, w: u32) -> Effect
+    ensures { λ e. ⌜ ((t : Tables) (f : Fronts) → effectOf e t ≡ verdict (λ v. request v x w) (seen st t f)) ⌝ }
+{
+    let n = request_number(st);
+    if n != 0 {
+        return effect::refuse(st, n);
+    }
+    let p = st.phase;
+    let t = phases::transfer_of(p);
+    let g = st.regs;
+    let c = ask(st.control, st.levels.sdo.0 == 0);
+    let o = effect::on_sdi(true, Op::Push2(x, w));
+    effect::done(st, 0, 0, g, c, Phase::Requested(t), o)
+}
+
+// The number of an address take, 0 where none of its tests holds.
+fn take_number(st: State) -> u32
+    ensures { λ n. ⌜ ((t : Tables) (f : Fronts) → n ≡ number (takeAddress (seen st t f))) ⌝ }
+{
+    let p = st.phase;
+    let at = phases::stage_of(p);
+    let none = st.levels.sdo.0 == 0;
+    let n = bank::select(none, 12, 0);
+    let n = bank::select(!(at == phases::REQUESTED), 10, n);
+    effect::while_open(st.control.held, at, n)
+}
+
+// Whether the address and its parity bit, bits 31:24, hold an odd number of ones.
+fn is_odd(w: u32) -> bool
+    ensures { λ r. ⌜ r ≡ eqb (ones (w / 2 ^ 24) % 2) 1 ⌝ }
+{
+    u32::count_ones(w / 16777216) % 2 == 1
+}
+
+// The phase after an address was taken: where its parity is wrong the request stays open.
+fn replied(odd: bool, t: Transfer) -> Phase
+    ensures { λ p. ⌜ p ≡ cond odd (Answered t) (Requested t) ⌝ }
+{
+    if odd {
+        return Phase::Answered(t);
+    }
+    Phase::Requested(t)
+}
+
+// The address for the open request, taken from SDO, whose first word is `word`.
+pub fn take_address(st: State, word: u32) -> Effect
+    ensures { λ e. ⌜ ((t : Tables) (f : Fronts) → word ≡ f .sdo .first → effectOf e t ≡ verdict takeAddress (seen st t f)) ⌝ }
+{
+    let n = take_number(st);
+    if n != 0 {
+        return effect::refuse(st, n);
+    }
+    let p = st.phase;
+    let odd = is_odd(word);
+    let next = replied(odd, phases::transfer_of(p));
+    let g = st.regs;
+    let c = ask(st.control, !odd & (st.levels.sdo.0 <= 1));
+    let n = bank::select(odd, 0, 19);
+    let o = effect::on_sdo(true, Op::Take(1));
+    effect::done(st, word / 33554432, n, g, c, next, o)
+}

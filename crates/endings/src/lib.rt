@@ -1,0 +1,37 @@
+// Which code may end the open transfer.
+ghost use mathlib.Core.Path.{_≡_};
+ghost use Rattle.model.specs.Calls.{endsEntdaa, endsOther, allowed};
+use bank::Phase;
+use bank::phases;
+
+fn ends_entdaa(p: Phase, code: u8) -> bool
+    ensures { λ r. ⌜ r ≡ endsEntdaa p code ⌝ }
+{
+    let at = phases::stage_of(p);
+    ((code == 0) & !(at == phases::REQUESTED)) | ((code == 4) & (at == phases::UNREQUESTED))
+}
+
+fn ends_other(p: Phase, code: u8) -> bool
+    ensures { λ r. ⌜ r ≡ endsOther p code ⌝ }
+{
+    let t = phases::transfer_of(p);
+    let k = t.kind;
+    let reads = phases::stage_of(p) == phases::READING;
+    let nothing = t.moved.0 == 0;
+    let everything = t.moved.0 == t.length.0;
+    let ccc = !phases::is_private(k);
+    let wide = phases::is_broadcast(k);
+    ((code == 4) & nothing & (ccc | t.header))
+        | ((code == 6) & nothing & !wide)
+        | ((code == 0) & (everything | (reads & !ccc)))
+        | ((code == 1) & reads & ccc & !everything)
+}
+
+// Whether a code may end the open transfer.
+pub fn is_allowed(p: Phase, code: u8) -> bool
+    ensures { λ r. ⌜ r ≡ allowed p code ⌝ }
+{
+    let assigns = phases::UNREQUESTED <= phases::stage_of(p);
+    let rest = bank::choose(assigns, ends_entdaa(p, code), ends_other(p, code));
+    bank::choose(phases::is_unattached(p), code == 8, rest)
+}

@@ -1,0 +1,58 @@
+-- `finish::finish` meets its contract.
+use mathlib.Core.Path.{refl, sym, _∙_}
+use Rattle.model.specs.Calls.{finish}
+use Rattle.effect.specs.Seen.{seen}
+use Rattle.effect.proofs.Laws.{refused-as, served-as}
+use Rattle.finish.proofs.Finishing.{moved-small}
+use borrow.Author.Needs.{needs}
+use Rattle.finish.proofs.finish.Statement.{statement}
+use Rattle.finish.proofs.finish.Tie as tie
+
+finish-number-requires : tie.Need-finish-number-requires
+finish-number-requires c κs = search needs
+
+refuse-requires : tie.Need-refuse-requires
+refuse-requires c κs = search needs
+
+returns : tie.Need-returns
+returns c = λ t f. let a = c .before .before .before in
+    c .refuse .ensures t f ∙ refused-as (λ v. finish v (a .args .code)) (seen (a .args .st) t f) _ (c .before .if1 .taken) (c .before .before .finish-number .ensures t f)
+
+transfer-of-requires : tie.Need-transfer-of-requires
+transfer-of-requires c κs = search needs
+
+is-padded-requires : tie.Need-is-padded-requires
+is-padded-requires c κs = search needs
+
+receipt-requires : tie.Need-receipt-requires
+receipt-requires c κs = let a = c .before .before .before .before in (a .pre .1, rw (c .before .transfer-of .ensures) (moved-small (a .args .st .phase) (a .pre .0)))
+
+counted-requires : tie.Need-counted-requires
+counted-requires c κs = search needs
+
+receipt-and-requires : tie.Need-receipt-and-requires
+receipt-and-requires c κs = search needs
+
+done-requires : tie.Need-done-requires
+done-requires c κs = search needs
+
+returns-2 : tie.Need-returns-2
+unfolding finish
+returns-2 c = λ t f. let i = c .before .before .before .before .before .before .before in
+    let a = c .before .before .before .before .before .before .before .before .before in
+    rw (c .done .ensures t, c .before .receipt-and .ensures, c .before .before .counted .ensures, c .before .before .before .before .receipt .ensures, c .before .before .before .before .before .is-padded .ensures, c .before .before .before .before .before .before .transfer-of .ensures) (served-as (λ v. finish v (a .args .code)) (seen (a .args .st) t f) refl (sym (i .before .finish-number .ensures t f) ∙ i .if1 .left))
+
+pub finish-spec : {M : Type 1} → statement M
+finish-spec =
+    tie.close
+    (tie.spec
+    finish-number-requires
+    refuse-requires
+    returns
+    transfer-of-requires
+    is-padded-requires
+    receipt-requires
+    counted-requires
+    receipt-and-requires
+    done-requires
+    returns-2)

@@ -1,0 +1,76 @@
+// The end of a transfer outside a burst, as a decision, behind the test of the code.
+ghost use mathlib.Core.Path.{_≡_};
+ghost use mathlib.Core.Bool.{true};
+ghost use Prim.Native.Nat.{_≤_, _<_};
+ghost use Rattle.bank.specs.Formed.{phaseOk};
+ghost use Rattle.model.specs.View.{Tables};
+ghost use Rattle.model.specs.Commands.{receiptWord};
+ghost use Rattle.model.specs.Calls.{finish, padded, receipted};
+ghost use Rattle.effect.specs.Effects.{effectOf, verdict, number};
+ghost use Rattle.effect.specs.Seen.{Fronts, seen};
+use bank::Control;
+use bank::Phase;
+use bank::State;
+use bank::phases;
+use effect::Effect;
+
+// Whether a part-filled word is left to push.
+fn is_padded(p: Phase) -> bool
+    ensures { λ r. ⌜ r ≡ padded p ⌝ }
+{
+    let t = phases::transfer_of(p);
+    let words = ring::words_for(t.moved);
+    (phases::stage_of(p) == phases::READING) & (t.moved.0 / 4 < words.0)
+}
+
+// The number of a finish, 0 where none of its tests holds.
+fn finish_number(st: State, code: u8) -> u32
+    ensures { λ n. ⌜ ((t : Tables) (f : Fronts) → n ≡ number (finish (seen st t f) code)) ⌝ }
+{
+    let p = st.phase;
+    let at = phases::stage_of(p);
+    let ends = endings::is_allowed(p, code);
+    let pads = is_padded(p);
+    let k = st.caps;
+    let l = st.levels;
+    let full = (k.cmdr.0 <= l.cmdr.0) | (pads & (k.sdi.0 <= l.sdi.0));
+    let n = bank::select(full, 13, 0);
+    let n = bank::select(!ends, 14, n);
+    effect::while_open(st.control.held, at, n)
+}
+
+fn receipt(code: u8, moved: u32, sync: u8) -> u32
+    requires { ⌜ (code ≤ 15) × (moved < 4096) ⌝ }
+    ensures { λ r. ⌜ r ≡ receiptWord code moved sync ⌝ }
+{
+    code as u32 * 0x100000 + moved * 256 + sync as u32
+}
+
+// A receipt more is queued.
+fn counted(c: Control) -> Control
+    ensures { λ r. ⌜ r ≡ receipted c ⌝ }
+{
+    let mut next = c;
+    next.sync = std::num::wrapping_add_u8(c.sync, 1);
+    next.cmdrpending = true;
+    next
+}
+
+// The open transfer ends with a code.
+pub fn finish(st: State, code: u8) -> Effect
+    requires { ⌜ (phaseOk (st .phase) ≡ true) × (code ≤ 15) ⌝ }
+    ensures { λ e. ⌜ ((t : Tables) (f : Fronts) → effectOf e t ≡ verdict (λ v. finish v code) (seen st t f)) ⌝ }
+{
+    let n = finish_number(st, code);
+    if n != 0 {
+        return effect::refuse(st, n);
+    }
+    let p = st.phase;
+    let t = phases::transfer_of(p);
+    let pads = is_padded(p);
+    let r = receipt(code, t.moved.0, st.control.sync);
+    let g = st.regs;
+    let c = counted(st.control);
+    let o = effect::receipt_and(r, pads, t.part);
+    effect::done(st, r, 0, g, c, Phase::Idle, o)
+}

@@ -1,0 +1,25 @@
+-- `interrupt::entry` meets its contract.
+use Rattle.model.specs.Commands.{entryWord}
+use mathlib.Core.Path.{refl}
+use borrow.Author.Needs.{needs}
+use Rattle.interrupt.proofs.entry.Statement.{statement}
+use Rattle.interrupt.proofs.entry.Tie as tie
+
+mul-result : tie.Need-mul-result
+mul-result c = search needs
+
+mul-result-2 : tie.Need-mul-result-2
+mul-result-2 c = search needs
+
+add-result : tie.Need-add-result
+add-result c = search needs
+
+add-result-2 : tie.Need-add-result-2
+add-result-2 c = search needs
+
+returns : tie.Need-returns
+unfolding entryWord
+returns c = refl
+
+pub entry-spec : {M : Type 1} → statement M
+entry-spec = tie.close (tie.spec mul-result mul-result-2 add-result add-result-2 returns)

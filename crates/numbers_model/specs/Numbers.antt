@@ -1,0 +1,74 @@
+-- Demand 1, of paper 00: every call, with any input, ends with one number of its own. Each call's numbers, in the order in which they are
+-- tested, and what is proved of them. docs/ANSWERS.md has the same table, and a test holds it to this one.
+use Prim.Native.Nat.{ℕ}
+use mathlib.Core.Path.{_≡_}
+use mathlib.Core.Bool.{Bool, true, false, cond, _||_}
+use mathlib.Core.List.{List, [], _∷_, _++_}
+use lib.Dec.{eqb}
+use Rattle.bank.specs.declared.Answer.{Answer}
+use Rattle.bank.specs.declared.Sizes.{Sizes}
+use Rattle.bank.specs.SetUp.{setUp}
+use Rattle.model.specs.declared.Call.{Call}
+use Rattle.model.specs.declared.Call.the-variants.{Read, Write, Start, Send, Receive, Finish, Interrupt, Request, Take, Trigger}
+use Rattle.model.specs.Decision.{Decision, does, _⇒_∣_}
+use Rattle.model.specs.Bursts.{decide}
+use Rattle.model.specs.Engine.{step}
+use Rattle.model.specs.Rings.{Controller, viewRings, guardRings, rings}
+
+-- ── The table ─────────────────────────────────────────────────────────────────────────────────────────────────
+-- Refusals. "21 goes first, then 22, then 18, then the order given at each event. For accesses: 21, 22, 4, 2, 5, 1, 3", with 02 §3's 6 after
+-- 4; 02 §3's 13 after 18 at each event.
+abbrev pub numbers : Call → List ℕ
+numbers (Read o) = 21 ∷ 22 ∷ 4 ∷ 3 ∷ []
+numbers (Write o v) = 21 ∷ 22 ∷ 4 ∷ 6 ∷ 2 ∷ 5 ∷ 1 ∷ []
+numbers Start = 21 ∷ 22 ∷ 13 ∷ 5 ∷ 6 ∷ 8 ∷ 9 ∷ 15 ∷ []
+numbers Send = 21 ∷ 22 ∷ 13 ∷ 5 ∷ 7 ∷ 20 ∷ 10 ∷ 11 ∷ 12 ∷ []
+numbers (Receive byte) = 21 ∷ 22 ∷ 13 ∷ 5 ∷ 7 ∷ 20 ∷ 10 ∷ 11 ∷ 13 ∷ []
+numbers (Finish code) = 21 ∷ 22 ∷ 18 ∷ 13 ∷ 5 ∷ 7 ∷ 14 ∷ 13 ∷ []
+numbers (Interrupt a byte) = 21 ∷ 22 ∷ 18 ∷ 13 ∷ 5 ∷ 6 ∷ 16 ∷ 17 ∷ 13 ∷ []
+numbers (Request v w) = 21 ∷ 22 ∷ 13 ∷ 5 ∷ 7 ∷ 10 ∷ 13 ∷ []
+numbers Take = 21 ∷ 22 ∷ 13 ∷ 5 ∷ 7 ∷ 10 ∷ 12 ∷ []
+numbers Trigger = 21 ∷ 22 ∷ 13 ∷ 5 ∷ 6 ∷ 8 ∷ 28 ∷ 29 ∷ 13 ∷ []
+
+-- what a call that is not refused ends with
+abbrev pub ends : Call → List ℕ
+ends (Read o) = 0 ∷ []
+ends (Write o v) = 0 ∷ []
+ends Start = 0 ∷ []
+ends Send = 0 ∷ []
+ends (Receive byte) = 0 ∷ []
+ends (Finish code) = 0 ∷ []
+ends (Interrupt a byte) = 0 ∷ []
+ends (Request v w) = 0 ∷ []
+ends Take = 0 ∷ 19 ∷ []
+ends Trigger = 0 ∷ []
+
+abbrev pub among : ℕ → List ℕ → Bool
+among n [] = false
+among n (m ∷ ms) = eqb n m || among n ms
+
+-- the first list lies within the second, in its order
+abbrev pub inOrder : List ℕ → List ℕ → Bool
+inOrder [] ms = true
+inOrder (n ∷ ns) [] = false
+inOrder (n ∷ ns) (m ∷ ms) = cond (eqb n m) (inOrder ns ms) (inOrder (n ∷ ns) ms)
+
+-- the numbers of a decision's tests
+abbrev pub tested : Decision → List ℕ
+tested (does e) = []
+tested (b ⇒ n ∣ d) = n ∷ tested d
+
+-- ── The demand ────────────────────────────────────────────────────────────────────────────────────────────────
+pub record Answered (l : Controller) (c : Call) : Type 0 where
+  -- the tests are made in the table's order; the first that holds gives its number (`first`)
+  pub ordered : inOrder (tested (guardRings l (decide (viewRings l) c))) (numbers c) ≡ true
+  -- the call ends with a number of the table
+  pub numbered : among (step rings l c .answer .number) (ends c ++ numbers c) ≡ true
+  -- a refusal changes nothing, and its value is 0
+  pub unchanged : among (step rings l c .answer .number) (ends c) ≡ false → (step rings l c .next ≡ l) × (step rings l c .answer .value ≡ 0)
+
+-- "Every access, bus event and set-up, with any input, ends with one answer of document 01's table, to which later requests add their own
+-- numbers."
+pub record Demand1 : Type 0 where
+  pub calls : (l : Controller) (c : Call) → Answered l c
+  pub setUps : (caps marks : Sizes) (id : ℕ) → let a = setUp caps marks id .answer in (among (a .number) (0 ∷ 23 ∷ []) ≡ true) × (a .value ≡ 0)

@@ -1,0 +1,41 @@
+-- `payload_bytes::byte_number` meets its contract.
+use borrow.Author.Needs.{needs}
+use Rattle.payload_bytes.proofs.byte_number.Statement.{statement}
+use Rattle.payload_bytes.proofs.byte_number.Tie as tie
+
+transfer-of-requires : tie.Need-transfer-of-requires
+transfer-of-requires c κs = search needs
+
+stage-of-requires : tie.Need-stage-of-requires
+stage-of-requires c κs = search needs
+
+is-unattached-requires : tie.Need-is-unattached-requires
+is-unattached-requires c κs = search needs
+
+select-requires : tie.Need-select-requires
+select-requires c κs = search needs
+
+select-requires-2 : tie.Need-select-requires-2
+select-requires-2 c κs = search needs
+
+select-requires-3 : tie.Need-select-requires-3
+select-requires-3 c κs = search needs
+
+while-open-requires : tie.Need-while-open-requires
+while-open-requires c κs = search needs
+
+returns : tie.Need-returns
+returns c = rw (c .while-open .ensures, c .before .select3 .ensures, c .before .before .select2 .ensures, c .before .before .before .select .ensures, c .before .before .before .before .before .is-unattached .ensures, c .before .before .before .before .before .before .stage-of .ensures, c .before .before .before .before .before .before .before .transfer-of .ensures)
+
+pub byte-number-spec : {M : Type 1} → statement M
+byte-number-spec =
+    tie.close
+    (tie.spec
+    transfer-of-requires
+    stage-of-requires
+    is-unattached-requires
+    select-requires
+    select-requires-2
+    select-requires-3
+    while-open-requires
+    returns)

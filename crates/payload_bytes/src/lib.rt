@@ -1,0 +1,52 @@
+// What bytes sent and received share, outside a burst and inside: their tests, their count, and their place in a word.
+ghost use mathlib.Core.Path.{_≡_};
+ghost use Prim.Native.Nat.{_+_, _-_, _*_, _%_, _^_, _<_, _≤_};
+ghost use Rattle.model.specs.Calls.{advanced};
+ghost use Rattle.payload_bytes.specs.Bytes.{byteNumber};
+use bank::State;
+use bank::Transfer;
+use bank::phases;
+
+// One byte more has moved, and the part word is `w`.
+pub fn advance(t: Transfer, w: u32) -> Transfer
+    requires { ⌜ t .moved .0 < t .length .0 ⌝ }
+    ensures { λ r. ⌜ r ≡ advanced t w ⌝ }
+{
+    let m = t.moved.0 + 1;
+    let mut next = t;
+    next.moved.0 = m;
+    next.part = w;
+    next
+}
+
+// The number of a byte that a transfer in the phase `way` moves: 5, 7, 20, 10, 11, then `last`.
+pub fn byte_number(st: State, way: u32, last: u32) -> u32
+    ensures { λ n. ⌜ n ≡ byteNumber (st .control) (st .phase) way last ⌝ }
+{
+    let p = st.phase;
+    let t = phases::transfer_of(p);
+    let at = phases::stage_of(p);
+    let absent = phases::is_unattached(p);
+    let n = bank::select(t.length.0 <= t.moved.0, 11, last);
+    let n = bank::select(!(at == way), 10, n);
+    let n = bank::select(absent, 20, n);
+    effect::while_open(st.control.held, at, n)
+}
+
+// The weight of a byte in its word: the first has the highest.
+pub fn weight(moved: u32) -> u32
+    ensures { λ r. ⌜ (r ≡ 2 ^ (24 - 8 * (moved % 4))) × (r ≤ 0x1000000) × (0 < r) ⌝ }
+{
+    let k = moved % 4;
+    let low = bank::select(k == 2, 0x100, 1);
+    let mid = bank::select(k == 1, 0x10000, low);
+    bank::select(k == 0, 0x1000000, mid)
+}
+
+// The part word with one byte more.
+pub fn gathered(part: u32, moved: u32, byte: u8) -> u32
+    requires { ⌜ part % 2 ^ (32 - 8 * (moved % 4)) ≡ 0 ⌝ }
+    ensures { λ r. ⌜ r ≡ part + byte * 2 ^ (24 - 8 * (moved % 4)) ⌝ }
+{
+    part + byte as u32 * weight(moved)
+}

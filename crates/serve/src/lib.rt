@@ -1,0 +1,53 @@
+// Any call on a state, its heads and its lent tables: decided, then settled. A layer beneath the interface, which replays
+// use too: no call changes what the two tests of bank and store say, so a list of calls makes them once.
+ghost use mathlib.Core.Path.{_≡_};
+ghost use lib.ListN.{length};
+ghost use Rattle.model.specs.View.{tables};
+ghost use Rattle.model.specs.Bursts.{decide};
+ghost use Rattle.model.specs.Engine.{step};
+ghost use Rattle.model.specs.Rings.{rings};
+ghost use Rattle.answer.specs.Given.{bankWith, controller, view, given, decided, Open};
+ghost use Rattle.faults.specs.Faults.{faultNumber};
+use answer::Next;
+use bank::Heads;
+use bank::State;
+use model::Call;
+
+// Past the two tests.
+fn serve(
+    st: State,
+    h: Heads,
+    flags: &mut [u8; 128],
+    commands: &mut [u32; 16],
+    payloads: &mut [u32; 16],
+    store: &mut [u32],
+    output: &mut [u32],
+    call: Call,
+) -> Next
+    requires { ⌜ Open st h (now commands) (now store) ⌝ }
+    ensures { λ y. ⌜ given y (tables (now (flags .exit)) (now (commands .exit)) (now (payloads .exit)) (now (output .exit))) (now (store .exit)) ≡ (let t = tables (now (flags .entry)) (now (commands .entry)) (now (payloads .entry)) (now (output .entry)) in decided st h t (now (store .entry)) (decide (view st h t (now (store .entry))) call)) ⌝ }
+{
+    let e = decide::decide(st, h, flags, commands, payloads, store, output.len(), call);
+    settle::settle(st, h, flags, commands, payloads, store, output, e)
+}
+
+// Where the number of the two tests is known.
+pub fn step_parts(
+    st: State,
+    h: Heads,
+    flags: &mut [u8; 128],
+    commands: &mut [u32; 16],
+    payloads: &mut [u32; 16],
+    store: &mut [u32],
+    output: &mut [u32],
+    fault: u32,
+    call: Call,
+) -> Next
+    requires { ⌜ fault ≡ faultNumber (bankWith st h (tables (now flags) (now commands) (now payloads) (now output))) (length (now store)) ⌝ }
+    ensures { λ y. ⌜ given y (tables (now (flags .exit)) (now (commands .exit)) (now (payloads .exit)) (now (output .exit))) (now (store .exit)) ≡ step rings (controller (bankWith st h (tables (now (flags .entry)) (now (commands .entry)) (now (payloads .entry)) (now (output .entry)))) (now (store .entry)) (now (output .entry))) call ⌝ }
+{
+    if fault != 0 {
+        return answer::refuse(st, h, fault);
+    }
+    serve(st, h, flags, commands, payloads, store, output, call)
+}

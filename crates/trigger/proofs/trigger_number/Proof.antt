@@ -1,0 +1,56 @@
+-- `trigger::trigger_number` meets its contract.
+use Rattle.model.specs.Bursts.{trigger}
+use borrow.Author.Needs.{needs}
+use Rattle.trigger.proofs.trigger_number.Statement.{statement}
+use Rattle.trigger.proofs.trigger_number.Tie as tie
+
+stage-of-requires : tie.Need-stage-of-requires
+stage-of-requires c κs = search needs
+
+span-of-requires : tie.Need-span-of-requires
+span-of-requires c κs = search needs
+
+all-carried-requires : tie.Need-all-carried-requires
+all-carried-requires c κs = search needs
+
+is-lacking-requires : tie.Need-is-lacking-requires
+is-lacking-requires c κs = search needs
+
+select-requires : tie.Need-select-requires
+select-requires c κs = search needs
+
+select-requires-2 : tie.Need-select-requires-2
+select-requires-2 c κs = search needs
+
+select-requires-3 : tie.Need-select-requires-3
+select-requires-3 c κs = search needs
+
+is-offload-requires : tie.Need-is-offload-requires
+is-offload-requires c κs = search needs
+
+select-requires-4 : tie.Need-select-requires-4
+select-requires-4 c κs = search needs
+
+while-idle-requires : tie.Need-while-idle-requires
+while-idle-requires c κs = search needs
+
+returns : tie.Need-returns
+unfolding trigger
+returns c = λ a p o f h. let l = c .before .before .before .before .before .before in
+    rw (c .while-idle .ensures, c .before .select4 .ensures, c .before .before .is-offload .ensures, c .before .before .before .select3 .ensures, c .before .before .before .before .select2 .ensures, c .before .before .before .before .before .select .ensures, l .is-lacking .ensures, l .before .all-carried .ensures, l .before .before .span-of .ensures .0, l .before .before .before .stage-of .ensures, h)
+
+pub trigger-number-spec : {M : Type 1} → statement M
+trigger-number-spec =
+    tie.close
+    (tie.spec
+    stage-of-requires
+    span-of-requires
+    all-carried-requires
+    is-lacking-requires
+    select-requires
+    select-requires-2
+    select-requires-3
+    is-offload-requires
+    select-requires-4
+    while-idle-requires
+    returns)

@@ -16,8 +16,8 @@ use Rattle.model.specs.Engine.{step}
 use Rattle.model.specs.Rings.{Controller, viewRings, guardRings, rings}
 
 -- ── The table ─────────────────────────────────────────────────────────────────────────────────────────────────
--- Refusals. "21 goes first, then 22, then 18, then the order given at each event. For accesses: 21, 22, 4, 2, 5, 1, 3", with 02 §3's 6 after
--- 4; 02 §3's 13 after 18 at each event.
+-- Refusals, in 01's order ('Numbers that come back', 'Bus events'): bank and store first, then what is out of range, then the call's own
+-- list. 02 §3 puts 6 behind 4 in the list of writes, and 13 behind 18 in that of every event.
 abbrev pub numbers : Call → List ℕ
 numbers (Read o) = 21 ∷ 22 ∷ 4 ∷ 3 ∷ []
 numbers (Write o v) = 21 ∷ 22 ∷ 4 ∷ 6 ∷ 2 ∷ 5 ∷ 1 ∷ []
@@ -67,8 +67,7 @@ pub record Answered (l : Controller) (c : Call) : Type 0 where
   -- a refusal changes nothing, and its value is 0
   pub unchanged : among (step rings l c .answer .number) (ends c) ≡ false → (step rings l c .next ≡ l) × (step rings l c .answer .value ≡ 0)
 
--- "Every access, bus event and set-up, with any input, ends with one answer of document 01's table, to which later requests add their own
--- numbers."
+-- demand 1 of 00, of every call and of set-up
 pub record Demand1 : Type 0 where
   pub calls : (l : Controller) (c : Call) → Answered l c
   pub setUps : (caps marks : Sizes) (id : ℕ) → let a = setUp caps marks id .answer in (among (a .number) (0 ∷ 23 ∷ []) ≡ true) × (a .value ≡ 0)

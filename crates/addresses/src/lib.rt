@@ -13,7 +13,6 @@ use bank::Control;
 use bank::Phase;
 use bank::State;
 use bank::Transfer;
-use bank::phases;
 use effect::Effect;
 use effect::Op;
 
@@ -31,12 +30,12 @@ fn request_number(st: State) -> u32
     ensures { λ n. ⌜ ((t : Tables) (f : Fronts) (v w : ℕ) → n ≡ number (request (seen st t f) v w)) ⌝ }
 {
     let p = st.phase;
-    let at = phases::stage_of(p);
-    let barred = !(phases::UNREQUESTED <= at) | (at == phases::REQUESTED);
+    let idle = phases::is_idle(p);
+    let barred = !phases::is_assigning(p) | phases::is_requested(p);
     let room = bank::room(st.caps.sdi.0, st.levels.sdi.0);
     let n = bank::select(room < 2, 13, 0);
     let n = bank::select(barred, 10, n);
-    effect::while_open(st.control.held, at, n)
+    effect::while_open(st.control.held, idle, n)
 }
 
 // An address request of a device, whose two words go to SDI.
@@ -60,11 +59,11 @@ fn take_number(st: State) -> u32
     ensures { λ n. ⌜ ((t : Tables) (f : Fronts) → n ≡ number (takeAddress (seen st t f))) ⌝ }
 {
     let p = st.phase;
-    let at = phases::stage_of(p);
+    let idle = phases::is_idle(p);
     let none = st.levels.sdo.0 == 0;
     let n = bank::select(none, 12, 0);
-    let n = bank::select(!(at == phases::REQUESTED), 10, n);
-    effect::while_open(st.control.held, at, n)
+    let n = bank::select(!phases::is_requested(p), 10, n);
+    effect::while_open(st.control.held, idle, n)
 }
 
 // Whether the address and its parity bit, bits 31:24, hold an odd number of ones.

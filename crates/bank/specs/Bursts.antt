@@ -8,7 +8,7 @@ use Rattle.bank.specs.declared.Regs.{Regs}
 use Rattle.bank.specs.declared.Control.{Control}
 use Rattle.bank.specs.declared.Phase.{Phase}
 use Rattle.bank.specs.Bits.{bit, bits, weigh}
-use Rattle.bank.specs.Phases.{stage, reading, transfer, private}
+use Rattle.bank.specs.Phases.{writing, reading, transfer, private}
 
 -- OPS: "4:1 offload length, bit 0 mode"
 abbrev pub offloads : Regs → Bool
@@ -46,7 +46,7 @@ place c = c .burst - 1
 abbrev pub opens : ℕ → Phase → Bool
 opens w p =
     let t = transfer p in
-    private (t .kind) && eqb (weigh (t .header) 1) (bits 21 21 w) && eqb (t .length .0) (bits 19 8 w) && eqb (stage p) (cond (bit 0 w) 2 1)
+    private (t .kind) && eqb (weigh (t .header) 1) (bits 21 21 w) && eqb (t .length .0) (bits 19 8 w) && cond (bit 0 w) (reading p) (writing p)
 
 -- "a read's up to 4 bytes all gathered"; a write's stand in the offload data and none is left in the part word
 abbrev pub gatheredBytes : Phase → ℕ

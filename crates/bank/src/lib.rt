@@ -2,12 +2,10 @@
 ghost use mathlib.Core.Path.{_≡_};
 ghost use mathlib.Core.Bool.{cond};
 ghost use Prim.Native.Nat.{_+_, _-_};
+ghost use Rattle.bank.specs.Bits.{bit};
 ghost use Rattle.bank.specs.SetUp.{sizeOk, marksOk, cleared, total};
 use ring::Bytes;
 use ring::Words;
-
-pub mod bursts;
-pub mod phases;
 
 // A count of words for each queue: capacities, levels or watermarks.
 pub struct Counts {
@@ -252,6 +250,13 @@ pub fn state_with(caps: Counts, levels: Counts, g: Regs, c: Control, p: Phase) -
         control: control,
         phase: p,
     }
+}
+
+// Whether the lowest bit of a word is set.
+pub fn low_bit(v: u32) -> bool
+    ensures { λ b. ⌜ b ≡ bit 0 v ⌝ }
+{
+    v % 2 == 1
 }
 
 // The free places of a queue.

@@ -18,8 +18,6 @@ ghost use Rattle.effect.specs.Seen.{Fronts, seen};
 use bank::Control;
 use bank::Phase;
 use bank::State;
-use bank::bursts;
-use bank::phases;
 use effect::Effect;
 use effect::Table;
 
@@ -35,7 +33,7 @@ fn data_word(c: Control, commands: &[u32; 16], payloads: &[u32; 16]) -> u32
         return payloads[0];
     }
     let k = n - 1;
-    payloads[k - bursts::reads_in(commands, k)]
+    payloads[k - burst_commands::reads_in(commands, k)]
 }
 
 // The number of a byte sent, 0 where none of its tests holds.
@@ -43,7 +41,8 @@ fn send_number(st: State, commands: &[u32; 16], len: usize) -> u32
     requires { ⌜ bursting (st .control) ≡ true ⌝ }
     ensures { λ n. ⌜ ((a p o : List ℕ) (f : Fronts) → length o ≡ len → (let v = seen st (tables a (now (commands .entry)) p o) f in n ≡ number (short v ⇒ 13 ∣ burstSend v))) ⌝ }
 {
-    let n = payload_bytes::byte_number(st, phases::WRITING, 0);
+    let p = st.phase;
+    let n = payload_bytes::byte_number(st, phases::is_writing(p), 0);
     bank::select(trigger::is_lacking(st.regs, commands, len), 13, n)
 }
 
@@ -72,7 +71,8 @@ fn receive_number(st: State, commands: &[u32; 16], len: usize) -> u32
     requires { ⌜ bursting (st .control) ≡ true ⌝ }
     ensures { λ n. ⌜ ((a p o : List ℕ) (f : Fronts) (byte : ℕ) → length o ≡ len → (let v = seen st (tables a (now (commands .entry)) p o) f in n ≡ number (short v ⇒ 13 ∣ burstReceive v byte))) ⌝ }
 {
-    let n = payload_bytes::byte_number(st, phases::READING, 0);
+    let p = st.phase;
+    let n = payload_bytes::byte_number(st, phases::is_reading(p), 0);
     bank::select(trigger::is_lacking(st.regs, commands, len), 13, n)
 }
 
@@ -103,10 +103,10 @@ fn finish_number(st: State, commands: &[u32; 16], len: usize, code: u8) -> u32
     ensures { λ n. ⌜ ((a p o : List ℕ) (f : Fronts) → length o ≡ len → (let v = seen st (tables a (now (commands .entry)) p o) f in n ≡ number (short v ⇒ 13 ∣ burstFinish v code))) ⌝ }
 {
     let p = st.phase;
-    let at = phases::stage_of(p);
+    let idle = phases::is_idle(p);
     let ends = endings::is_allowed(p, code);
     let n = bank::select(!ends, 14, 0);
-    let n = effect::while_open(st.control.held, at, n);
+    let n = effect::while_open(st.control.held, idle, n);
     bank::select(trigger::is_lacking(st.regs, commands, len), 13, n)
 }
 
@@ -140,11 +140,11 @@ pub fn finish(st: State, flags: &[u8; 128], commands: &[u32; 16], len: usize, co
     }
     let p = st.phase;
     let t = phases::transfer_of(p);
-    let reads = phases::stage_of(p) == phases::READING;
+    let reads = phases::is_reading(p);
     let k = st.control.burst as usize;
     let passed = k - 1;
-    let place = bursts::reads_in(commands, passed) as u32;
-    let last = bursts::span_of(st.regs) <= k;
+    let place = burst_commands::reads_in(commands, passed) as u32;
+    let last = burst_commands::span_of(st.regs) <= k;
     let w = commands[k];
     let next = next_phase(last, flags, w);
     let g = st.regs;

@@ -11,7 +11,6 @@ ghost use Rattle.answer.specs.Given.{view, Open};
 ghost use Rattle.effect.specs.Effects.{effectOf, verdict};
 use bank::Heads;
 use bank::State;
-use bank::bursts;
 use effect::Effect;
 use model::Call;
 
@@ -69,7 +68,7 @@ pub fn decide(
     if is_misfit(call) {
         return effect::refuse(st, 18);
     }
-    if bursts::is_bursting(st.control) & is_event(call) {
+    if burst_commands::is_bursting(st.control) & is_event(call) {
         return offload::event(st, flags, commands, payloads, len, call);
     }
     outside::call(st, h, flags, commands, payloads, store, len, call)

@@ -2,7 +2,6 @@
 // Whoever settles an effect moves queues and tables by it. No engine is here: an effect says nothing of where queues lie.
 ghost use mathlib.Core.Path.{_≡_};
 ghost use mathlib.Core.Bool.{cond, not};
-ghost use lib.Dec.{eqb};
 ghost use Rattle.model.specs.View.{Tables, each};
 ghost use Rattle.model.specs.Decision.{keep, clear, push, keepAll, unchanged, _withNumber_};
 ghost use Rattle.effect.specs.Effects.{opOf, opsOf, tablesBy, effectOf};
@@ -12,7 +11,6 @@ use bank::Control;
 use bank::Phase;
 use bank::Regs;
 use bank::State;
-use bank::phases;
 
 // What happens to a queue.
 pub enum Op {
@@ -55,17 +53,17 @@ pub struct Effect {
 // ── Tests that events share ────────────────────────────────────────────────────────────────────────────────────
 
 // The number of an event that runs an open transfer: 5 in reset, 7 where none is open, then `n`.
-pub fn while_open(held: bool, at: u32, n: u32) -> u32
-    ensures { λ r. ⌜ r ≡ cond held 5 (cond (eqb at 0) 7 n) ⌝ }
+pub fn while_open(held: bool, idle: bool, n: u32) -> u32
+    ensures { λ r. ⌜ r ≡ cond held 5 (cond idle 7 n) ⌝ }
 {
-    bank::select(held, 5, bank::select(at == phases::IDLE, 7, n))
+    bank::select(held, 5, bank::select(idle, 7, n))
 }
 
 // The number of an event that begins where none is open: 5 in reset, 6 where one is, then `n`.
-pub fn while_idle(held: bool, at: u32, n: u32) -> u32
-    ensures { λ r. ⌜ r ≡ cond held 5 (cond (not (eqb at 0)) 6 n) ⌝ }
+pub fn while_idle(held: bool, idle: bool, n: u32) -> u32
+    ensures { λ r. ⌜ r ≡ cond held 5 (cond (not idle) 6 n) ⌝ }
 {
-    bank::select(held, 5, bank::select(!(at == phases::IDLE), 6, n))
+    bank::select(held, 5, bank::select(!idle, 6, n))
 }
 
 // ── Operations ─────────────────────────────────────────────────────────────────────────────────────────────────

@@ -11,7 +11,6 @@ ghost use Rattle.effect.specs.Seen.{Fronts, seen};
 use bank::Control;
 use bank::Phase;
 use bank::State;
-use bank::phases;
 use effect::Effect;
 
 // Whether a part-filled word is left to push.
@@ -20,7 +19,7 @@ fn is_padded(p: Phase) -> bool
 {
     let t = phases::transfer_of(p);
     let words = ring::words_for(t.moved);
-    (phases::stage_of(p) == phases::READING) & (t.moved.0 / 4 < words.0)
+    phases::is_reading(p) & (t.moved.0 / 4 < words.0)
 }
 
 // The number of a finish, 0 where none of its tests holds.
@@ -28,7 +27,7 @@ fn finish_number(st: State, code: u8) -> u32
     ensures { λ n. ⌜ ((t : Tables) (f : Fronts) → n ≡ number (finish (seen st t f) code)) ⌝ }
 {
     let p = st.phase;
-    let at = phases::stage_of(p);
+    let idle = phases::is_idle(p);
     let ends = endings::is_allowed(p, code);
     let pads = is_padded(p);
     let k = st.caps;
@@ -36,7 +35,7 @@ fn finish_number(st: State, code: u8) -> u32
     let full = (k.cmdr.0 <= l.cmdr.0) | (pads & (k.sdi.0 <= l.sdi.0));
     let n = bank::select(full, 13, 0);
     let n = bank::select(!ends, 14, n);
-    effect::while_open(st.control.held, at, n)
+    effect::while_open(st.control.held, idle, n)
 }
 
 fn receipt(code: u8, moved: u32, sync: u8) -> u32

@@ -5,13 +5,12 @@ use bank::Bank;
 use bank::Control;
 use bank::Phase;
 use bank::Regs;
-use bank::bursts;
 
 // Whether what is open, a burst or a transfer alone, is well formed. Without a burst no command is looked at.
 fn open_ok(c: Control, g: Regs, p: Phase, commands: &[u32; 16]) -> bool
     ensures { λ b. ⌜ b ≡ openOk c g p (now (commands .entry)) ⌝ }
 {
-    if !bursts::is_bursting(c) {
+    if !burst_commands::is_bursting(c) {
         return formed_transfer::phase_ok(p);
     }
     formed_burst::burst_ok(c, g, p, commands)

@@ -7,7 +7,6 @@ use bank::Control;
 use bank::Counts;
 use bank::Heads;
 use bank::Phase;
-use bank::phases;
 
 // Heads and levels 0. Capacities are not asked.
 fn queues_clear(l: Counts, h: Heads) -> bool
@@ -35,5 +34,5 @@ fn control_clear(c: Control) -> bool
 pub fn reset_ok(c: Control, p: Phase, l: Counts, h: Heads) -> bool
     ensures { λ b. ⌜ ((k : Counts) → b ≡ resetOk c p (queuesOf k l h)) ⌝ }
 {
-    !c.held | (queues_clear(l, h) & control_clear(c) & (phases::stage_of(p) == phases::IDLE))
+    !c.held | (queues_clear(l, h) & control_clear(c) & phases::is_idle(p))
 }

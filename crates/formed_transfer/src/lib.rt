@@ -4,7 +4,6 @@ ghost use Prim.Native.Nat.{_-_, _*_, _^_, _<_};
 ghost use Rattle.bank.specs.Formed.{transferOk, phaseOk};
 use bank::Phase;
 use bank::Transfer;
-use bank::phases;
 use ring::Bytes;
 
 // What a part word with `parts` bytes at its top is a multiple of.

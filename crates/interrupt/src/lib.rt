@@ -10,7 +10,6 @@ ghost use Rattle.effect.specs.Effects.{effectOf, verdict, number};
 ghost use Rattle.effect.specs.Seen.{Fronts, seen};
 use bank::Control;
 use bank::State;
-use bank::phases;
 use effect::Effect;
 use effect::Op;
 
@@ -20,14 +19,14 @@ fn interrupt_number(st: State, f: u8) -> u32
 {
     let p = st.phase;
     let config = st.regs.config;
-    let at = phases::stage_of(p);
+    let idle = phases::is_idle(p);
     let listens = config / 2 % 2 == 1;
-    let admits = (config / 1 % 2 == 1) & (f / 1 % 2 == 1) & (f / 2 % 2 == 1);
+    let admits = bank::low_bit(config as u32) & bank::low_bit(f as u32) & (f / 2 % 2 == 1);
     let full = st.caps.ibi.0 <= st.levels.ibi.0;
     let n = bank::select(full, 13, 0);
     let n = bank::select(!admits, 17, n);
     let n = bank::select(!listens, 16, n);
-    effect::while_idle(st.control.held, at, n)
+    effect::while_idle(st.control.held, idle, n)
 }
 
 // The data byte of an entry, 0 where the device sends none.

@@ -10,10 +10,10 @@ use lib.Seq.{drop-cons, append-snoc, set-at}
 use borrow.Author.Tests.{leb-true, ltb-false, eqb-true, not-false, not-true, lt-leb, ne-eqb}
 use Rattle.bank.specs.declared.Transfer.{Transfer}
 use Rattle.bank.specs.declared.Phase.{Phase}
-use Rattle.bank.specs.declared.Phase.the-variants.{Idle, Writing, Reading}
+use Rattle.bank.specs.declared.Phase.the-variants.{Idle, Writing, Reading, Unrequested, Requested, Answered}
 use Rattle.bank.specs.declared.Answer.{Answer}
 use Rattle.bank.specs.Bits.{bit, bits, weigh}
-use Rattle.bank.specs.Phases.{stage, idle, writing, reading, assigning, requested, transfer, unattached, limit}
+use Rattle.bank.specs.Phases.{idle, writing, reading, assigning, requested, transfer, unattached, limit}
 use Rattle.bank.specs.Bursts.{span, readsIn, writesIn, bursting, place, gatheredBytes}
 use Rattle.bank.specs.SetUp.{total}
 use Rattle.bank.specs.Formed.{wellFormed}
@@ -219,12 +219,22 @@ Stays l g c d =
     Passed d → suc (length (h .done)) ≤ span (l .bank .state .regs) → Going l (e .regs .ops) (e .control .burst) (e .phase) (e .tables .commands) (e .tables .payloads) (e .tables .output) h
 
 -- ── The direction of the transfer at hand ─────────────────────────────────────────────────────────────────────
-is-reading : (b : Bool) (p : Phase) → eqb (stage p) (cond b 2 1) ≡ true → reading p ≡ b
+is-reading : (b : Bool) (p : Phase) → cond b (reading p) (writing p) ≡ true → reading p ≡ b
 is-reading true p e = e
-is-reading false p e = ap (λ (n : ℕ). eqb n 2) (eqb-true (stage p) 1 e)
+is-reading false Idle e = refl
+is-reading false (Writing t) e = refl
+is-reading false (Reading t) e = absurd (false≢true e)
+is-reading false (Unrequested t) e = refl
+is-reading false (Requested t) e = refl
+is-reading false (Answered t) e = refl
 
-is-writing : (b : Bool) (p : Phase) → eqb (stage p) (cond b 2 1) ≡ true → writing p ≡ not b
-is-writing true p e = ap (λ (n : ℕ). eqb n 1) (eqb-true (stage p) 2 e)
+is-writing : (b : Bool) (p : Phase) → cond b (reading p) (writing p) ≡ true → writing p ≡ not b
+is-writing true Idle e = refl
+is-writing true (Writing t) e = absurd (false≢true e)
+is-writing true (Reading t) e = refl
+is-writing true (Unrequested t) e = refl
+is-writing true (Requested t) e = refl
+is-writing true (Answered t) e = refl
 is-writing false p e = e
 
 -- ── A transfer opens ──────────────────────────────────────────────────────────────────────────────────────────

@@ -14,7 +14,7 @@ use Rattle.bank.specs.declared.Transfer.{Transfer}
 use Rattle.bank.specs.declared.Phase.{Phase}
 use Rattle.bank.specs.declared.Phase.the-variants.{Idle, Writing, Reading, Unrequested, Requested, Answered}
 use Rattle.bank.specs.Bits.{bit, bits, weigh}
-use Rattle.bank.specs.Phases.{stage, idle, writing, reading, assigning, requested, transfer, private, unattached, limit}
+use Rattle.bank.specs.Phases.{idle, writing, reading, assigning, requested, transfer, private, unattached, limit}
 use Rattle.bank.specs.Bursts.{offloads, span, carried, allCarried, bursting, place, opens, gatheredBytes}
 use Rattle.bank.specs.Formed.{transferOk, phaseOk, burstOk, openOk}
 use Rattle.bank.proofs.Bools.{or-left, and-true, three, five, all-three, all-five}
@@ -76,7 +76,7 @@ pub record Opens (w : ℕ) (p : Phase) : Type 0 where
   pub kind : private (transfer p .kind) ≡ true
   pub header : eqb (weigh (transfer p .header) 1) (bits 21 21 w) ≡ true
   pub length : eqb (transfer p .length .0) (bits 19 8 w) ≡ true
-  pub stage : eqb (stage p) (cond (bit 0 w) 2 1) ≡ true
+  pub stage : cond (bit 0 w) (reading p) (writing p) ≡ true
 
 pub opens-parts : (w : ℕ) (p : Phase) → opens w p ≡ true → Opens w p
 opens-parts w p h =
@@ -84,12 +84,12 @@ opens-parts w p h =
     let k = private (t .kind) in
     let x = eqb (weigh (t .header) 1) (bits 21 21 w) in
     let l = eqb (t .length .0) (bits 19 8 w) in
-    let z = and-true (k && x && l) (eqb (stage p) (cond (bit 0 w) 2 1)) h in
+    let z = and-true (k && x && l) (cond (bit 0 w) (reading p) (writing p)) h in
     let y = three k x l (z .0) in
     record { kind = y .0; header = y .1; length = y .2; stage = z .1 }
 
 -- a write or a read is open, and no other
-staged : (b : Bool) (p : Phase) → eqb (stage p) (cond b 2 1) ≡ true → (idle p ≡ false) × (assigning p ≡ false)
+staged : (b : Bool) (p : Phase) → cond b (reading p) (writing p) ≡ true → (idle p ≡ false) × (assigning p ≡ false)
 staged true Idle e = absurd (false≢true e)
 staged false Idle e = absurd (false≢true e)
 staged b (Writing t) e = (refl, refl)

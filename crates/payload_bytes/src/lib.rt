@@ -5,7 +5,6 @@ ghost use Rattle.model.specs.Calls.{advanced};
 ghost use Rattle.payload_bytes.specs.Bytes.{byteNumber};
 use bank::State;
 use bank::Transfer;
-use bank::phases;
 
 // One byte more has moved, and the part word is `w`.
 pub fn advance(t: Transfer, w: u32) -> Transfer
@@ -19,18 +18,18 @@ pub fn advance(t: Transfer, w: u32) -> Transfer
     next
 }
 
-// The number of a byte that a transfer in the phase `way` moves: 5, 7, 20, 10, 11, then `last`.
-pub fn byte_number(st: State, way: u32, last: u32) -> u32
-    ensures { λ n. ⌜ n ≡ byteNumber (st .control) (st .phase) way last ⌝ }
+// The number of a byte that moves the way of the open transfer where `apt` holds: 5, 7, 20, 10, 11, then `last`.
+pub fn byte_number(st: State, apt: bool, last: u32) -> u32
+    ensures { λ n. ⌜ n ≡ byteNumber (st .control) (st .phase) apt last ⌝ }
 {
     let p = st.phase;
     let t = phases::transfer_of(p);
-    let at = phases::stage_of(p);
+    let idle = phases::is_idle(p);
     let absent = phases::is_unattached(p);
     let n = bank::select(t.length.0 <= t.moved.0, 11, last);
-    let n = bank::select(!(at == way), 10, n);
+    let n = bank::select(!apt, 10, n);
     let n = bank::select(absent, 20, n);
-    effect::while_open(st.control.held, at, n)
+    effect::while_open(st.control.held, idle, n)
 }
 
 // The weight of a byte in its word: the first has the highest.

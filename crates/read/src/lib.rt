@@ -7,7 +7,6 @@ ghost use Rattle.model.specs.Registers.{row, read};
 ghost use Rattle.effect.specs.Effects.{effectOf, verdict};
 ghost use Rattle.effect.specs.Seen.{Fronts, seen, takenBy};
 use bank::State;
-use bank::phases;
 use effect::Effect;
 use read_rows::show;
 use registers::Register;
@@ -48,7 +47,7 @@ pub fn read(
         Register::FifoStatus => show(st, read_rows::status_word(l.cmdr.0, l.ibi.0, l.sdi.0)),
         Register::Ops => show(
             st,
-            read_rows::ops_word(phases::stage_of(p) == phases::IDLE, g.ops),
+            read_rows::ops_word(phases::is_idle(p), g.ops),
         ),
         Register::IbiConfig => show(st, 0),
         Register::DevChar => show(

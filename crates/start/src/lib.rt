@@ -13,7 +13,6 @@ use bank::Kind;
 use bank::Phase;
 use bank::State;
 use bank::Transfer;
-use bank::phases;
 use effect::Effect;
 use effect::Op;
 use ring::Bytes;
@@ -60,7 +59,7 @@ fn begun_by(two: bool, w: u32, x: u32, attached: bool) -> Phase
     if is_entdaa(two, w, x) {
         return Phase::Unrequested(t);
     }
-    if w / 1 % 2 == 1 {
+    if bank::low_bit(w) {
         return Phase::Reading(t);
     }
     Phase::Writing(t)
@@ -70,7 +69,7 @@ fn begun_by(two: bool, w: u32, x: u32, attached: bool) -> Phase
 fn is_attached(k: Kind, flags: u8) -> bool
     ensures { λ r. ⌜ r ≡ (broadcast k || bit 0 flags) ⌝ }
 {
-    phases::is_broadcast(k) | (flags / 1 % 2 == 1)
+    phases::is_broadcast(k) | bank::low_bit(flags as u32)
 }
 
 // The transfer that a private command opens: its device may be attached now.
@@ -87,15 +86,15 @@ fn start_number(st: State, w: u32, x: u32) -> u32
     ensures { λ n. ⌜ ((t : Tables) (f : Fronts) → w ≡ f .cmd .first → x ≡ f .cmd .second → n ≡ number (start (seen st t f))) ⌝ }
 {
     let p = st.phase;
-    let at = phases::stage_of(p);
+    let idle = phases::is_idle(p);
     let two = w / 0x400000 % 2 == 1;
     let level = st.levels.cmd.0;
     let waits = bank::choose(level == 0, false, bank::choose(level == 1, !two, true));
     let blocked = is_entdaa(two, w, x) & !(st.levels.sdo.0 == 0);
     let n = bank::select(blocked, 15, 0);
     let n = bank::select(!waits, 9, n);
-    let n = bank::select(st.regs.ops / 1 % 2 == 1, 8, n);
-    effect::while_idle(st.control.held, at, n)
+    let n = bank::select(bank::low_bit(st.regs.ops as u32), 8, n);
+    effect::while_idle(st.control.held, idle, n)
 }
 
 // The first command of CMD starts: `w` and `x` are the first words of CMD, `flags` those of the device that `w` names.

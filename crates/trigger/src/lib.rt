@@ -12,15 +12,13 @@ ghost use Rattle.effect.specs.Seen.{Fronts, seen};
 use bank::Control;
 use bank::Regs;
 use bank::State;
-use bank::bursts;
-use bank::phases;
 use effect::Effect;
 
 // Whether an output of so many words is shorter than the reads.
 pub fn is_lacking(g: Regs, commands: &[u32; 16], len: usize) -> bool
     ensures { λ b. ⌜ b ≡ ltb len (readsIn (span g) (now (commands .entry))) ⌝ }
 {
-    len < bursts::reads_in(commands, bursts::span_of(g))
+    len < burst_commands::reads_in(commands, burst_commands::span_of(g))
 }
 
 // The burst stands at another command, or at none.
@@ -37,14 +35,14 @@ fn trigger_number(st: State, commands: &[u32; 16], len: usize) -> u32
     ensures { λ n. ⌜ ((a p o : List ℕ) (f : Fronts) → length o ≡ len → n ≡ number (trigger (seen st (tables a (now (commands .entry)) p o) f))) ⌝ }
 {
     let p = st.phase;
-    let at = phases::stage_of(p);
-    let span = bursts::span_of(st.regs);
-    let runs = bursts::all_carried(commands, span);
+    let idle = phases::is_idle(p);
+    let span = burst_commands::span_of(st.regs);
+    let runs = burst_commands::all_carried(commands, span);
     let n = bank::select(is_lacking(st.regs, commands, len), 13, 0);
     let n = bank::select(!runs, 29, n);
     let n = bank::select(span == 0, 28, n);
-    let n = bank::select(!bursts::is_offload(st.regs), 8, n);
-    effect::while_idle(st.control.held, at, n)
+    let n = bank::select(!burst_commands::is_offload(st.regs), 8, n);
+    effect::while_idle(st.control.held, idle, n)
 }
 
 // A burst begins with the transfer of its first command.

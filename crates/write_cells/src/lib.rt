@@ -14,7 +14,6 @@ ghost use Rattle.effect.specs.Seen.{Fronts, seen};
 use bank::Control;
 use bank::Regs;
 use bank::State;
-use bank::bursts;
 use effect::Effect;
 use effect::Table;
 
@@ -57,7 +56,7 @@ pub fn write_config(st: State, x: u32) -> Effect
 fn burst_number(c: Control) -> u32
     ensures { λ n. ⌜ n ≡ weigh (bursting c) 6 ⌝ }
 {
-    bank::select(bursts::is_bursting(c), 6, 0)
+    bank::select(burst_commands::is_bursting(c), 6, 0)
 }
 
 // OPS after a write, where it comes; else as it was.

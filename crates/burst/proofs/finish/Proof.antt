@@ -28,8 +28,8 @@ returns c = λ p o f h. let a = c .before .before .before in
 transfer-of-requires : tie.Need-transfer-of-requires
 transfer-of-requires c κs = search needs
 
-stage-of-requires : tie.Need-stage-of-requires
-stage-of-requires c κs = search needs
+is-reading-requires : tie.Need-is-reading-requires
+is-reading-requires c κs = search needs
 
 cast-k : tie.Need-cast-k
 cast-k c = let a = c .before .before .before .before .before in
@@ -91,7 +91,7 @@ returns-2 c = λ p o f h. let r = c .before .before .before .before .before .bef
     let st = a .args .st in
     let ws = a .args .commands .now in
     let t = tables (a .args .flags .now) ws p o in
-    rw (c .done-with .ensures t, c .before .table-if .ensures t, c .before .before .none .ensures, c .before .before .before .stand .ensures, c .before .before .before .before .after .ensures, c .before .before .before .before .before .before .next-phase .ensures, c .before .before .before .before .before .before .before .before .span-of .ensures .0, r .reads-in .ensures .0, r .before .before .stage-of .ensures, r .before .before .before .transfer-of .ensures, output-if (reading (st .phase)) (readsIn (place (st .control)) ws) (transfer (st .phase) .part) t)
+    rw (c .done-with .ensures t, c .before .table-if .ensures t, c .before .before .none .ensures, c .before .before .before .stand .ensures, c .before .before .before .before .after .ensures, c .before .before .before .before .before .before .next-phase .ensures, c .before .before .before .before .before .before .before .before .span-of .ensures .0, r .reads-in .ensures .0, r .before .before .is-reading .ensures, r .before .before .before .transfer-of .ensures, output-if (reading (st .phase)) (readsIn (place (st .control)) ws) (transfer (st .phase) .part) t)
     (served-as (λ v. short v ⇒ 13 ∣ burstFinish v (a .args .code)) (seen st t f) refl (sym (i .before .finish-number .ensures (a .args .flags .now) p o f h) ∙ i .if1 .left))
 
 pub finish-spec : {M : Type 1} → statement M
@@ -102,7 +102,7 @@ finish-spec =
     refuse-requires
     returns
     transfer-of-requires
-    stage-of-requires
+    is-reading-requires
     cast-k
     sub-passed
     reads-in-requires

@@ -5,8 +5,8 @@ use borrow.Author.Needs.{needs}
 use Rattle.burst.proofs.finish_number.Statement.{statement}
 use Rattle.burst.proofs.finish_number.Tie as tie
 
-stage-of-requires : tie.Need-stage-of-requires
-stage-of-requires c κs = search needs
+is-idle-requires : tie.Need-is-idle-requires
+is-idle-requires c κs = search needs
 
 is-allowed-requires : tie.Need-is-allowed-requires
 is-allowed-requires c κs = search needs
@@ -26,13 +26,13 @@ select-requires-2 c κs = search needs
 returns : tie.Need-returns
 unfolding burstFinish
 returns c = λ a p o f h. let n = c .before .before .before .before .before .before in
-    rw (c .select2 .ensures, c .before .is-lacking .ensures, c .before .before .while-open .ensures, c .before .before .before .select .ensures, c .before .before .before .before .is-allowed .ensures, c .before .before .before .before .before .stage-of .ensures, short-is (n .args .st) a (n .args .commands .now) p o f (n .args .len) (n .pre) h)
+    rw (c .select2 .ensures, c .before .is-lacking .ensures, c .before .before .while-open .ensures, c .before .before .before .select .ensures, c .before .before .before .before .is-allowed .ensures, c .before .before .before .before .before .is-idle .ensures, short-is (n .args .st) a (n .args .commands .now) p o f (n .args .len) (n .pre) h)
 
 pub finish-number-spec : {M : Type 1} → statement M
 finish-number-spec =
     tie.close
     (tie.spec
-    stage-of-requires
+    is-idle-requires
     is-allowed-requires
     select-requires
     while-open-requires

@@ -4,8 +4,8 @@ use borrow.Author.Needs.{needs}
 use Rattle.interrupt.proofs.interrupt_number.Statement.{statement}
 use Rattle.interrupt.proofs.interrupt_number.Tie as tie
 
-stage-of-requires : tie.Need-stage-of-requires
-stage-of-requires c κs = search needs
+is-idle-requires : tie.Need-is-idle-requires
+is-idle-requires c κs = search needs
 
 select-requires : tie.Need-select-requires
 select-requires c κs = search needs
@@ -21,13 +21,13 @@ while-idle-requires c κs = search needs
 
 returns : tie.Need-returns
 unfolding interrupt
-returns c = λ t x address byte f. rw (c .while-idle .ensures, c .before .select3 .ensures, c .before .before .select2 .ensures, c .before .before .before .select .ensures, c .before .before .before .before .before .stage-of .ensures, f)
+returns c = λ t x address byte f. rw (c .while-idle .ensures, c .before .select3 .ensures, c .before .before .select2 .ensures, c .before .before .before .select .ensures, c .before .before .before .before .before .is-idle .ensures, f)
 
 pub interrupt-number-spec : {M : Type 1} → statement M
 interrupt-number-spec =
     tie.close
     (tie.spec
-    stage-of-requires
+    is-idle-requires
     select-requires
     select-requires-2
     select-requires-3

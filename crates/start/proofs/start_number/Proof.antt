@@ -4,8 +4,8 @@ use borrow.Author.Needs.{needs}
 use Rattle.start.proofs.start_number.Statement.{statement}
 use Rattle.start.proofs.start_number.Tie as tie
 
-stage-of-requires : tie.Need-stage-of-requires
-stage-of-requires c κs = search needs
+is-idle-requires : tie.Need-is-idle-requires
+is-idle-requires c κs = search needs
 
 choose-requires : tie.Need-choose-requires
 choose-requires c κs = search needs
@@ -31,13 +31,13 @@ while-idle-requires c κs = search needs
 returns : tie.Need-returns
 unfolding start
 returns c = λ t f h i. let a = c .before .before .before .before .before .before in
-    rw (c .while-idle .ensures, c .before .select3 .ensures, c .before .before .before .select2 .ensures, c .before .before .before .before .select .ensures, a .is-entdaa .ensures, a .before .choose2 .ensures, a .before .before .choose .ensures, a .before .before .before .stage-of .ensures, h, i)
+    rw (c .while-idle .ensures, c .before .select3 .ensures, c .before .before .before .select2 .ensures, c .before .before .before .before .select .ensures, a .is-entdaa .ensures, a .before .choose2 .ensures, a .before .before .choose .ensures, a .before .before .before .is-idle .ensures, h, i)
 
 pub start-number-spec : {M : Type 1} → statement M
 start-number-spec =
     tie.close
     (tie.spec
-    stage-of-requires
+    is-idle-requires
     choose-requires
     choose-requires-2
     is-entdaa-requires

@@ -1,13 +1,13 @@
--- `bank::phases::limit_of` meets its contract.
+-- `phases::limit_of` meets its contract.
 use borrow.Author.Needs.{needs}
-use Rattle.bank.proofs.phases.limit_of.Statement.{statement}
-use Rattle.bank.proofs.phases.limit_of.Tie as tie
+use Rattle.phases.proofs.limit_of.Statement.{statement}
+use Rattle.phases.proofs.limit_of.Tie as tie
 
 transfer-of-requires : tie.Need-transfer-of-requires
 transfer-of-requires c κs = search needs
 
-stage-of-requires : tie.Need-stage-of-requires
-stage-of-requires c κs = search needs
+is-assigning-requires : tie.Need-is-assigning-requires
+is-assigning-requires c κs = search needs
 
 is-unattached-requires : tie.Need-is-unattached-requires
 is-unattached-requires c κs = search needs
@@ -23,7 +23,7 @@ limit-of-spec =
     tie.close
     (tie.spec
     transfer-of-requires
-    stage-of-requires
+    is-assigning-requires
     is-unattached-requires
     select-requires
     returns)

@@ -1,4 +1,4 @@
--- `bank::bursts::reads_in` meets its contract.
+-- `burst_commands::reads_in` meets its contract.
 use Prim.Native.Nat.{ℕ, suc, _+_, _-_, _%_, _/_, _≤_, _<_}
 use mathlib.Core.Path.{_≡_, refl, sym, ap, _∙_}
 use mathlib.Core.List.{List}
@@ -6,14 +6,17 @@ use borrow.Author.Needs.{needs}
 use native.Mathlib.Omega.{arith}
 use native.Mathlib.Numerals.{add-one}
 use lib.ListN.{getD}
 use Rattle.bank.specs.Bursts.{readsIn}
-use Rattle.bank.proofs.bursts.reads_in.Statement.{statement}
-use Rattle.bank.proofs.bursts.reads_in.Tie as tie
+use Rattle.burst_commands.proofs.reads_in.Statement.{statement}
+use Rattle.burst_commands.proofs.reads_in.Tie as tie
+
+whole : (w : ℕ) → w % 2 ≡ w / 1 % 2
+whole w = omega arith
 
 -- one command more
-one-more : (ws : List ℕ) (i n : ℕ) → n ≡ readsIn i ws → n + getD ws i 0 / 1 % 2 ≡ readsIn (i + 1) ws
+one-more : (ws : List ℕ) (i n : ℕ) → n ≡ readsIn i ws → n + getD ws i 0 % 2 ≡ readsIn (i + 1) ws
 unfolding readsIn
-one-more ws i n e = rw (add-one i) (ap (λ (m : ℕ). m + getD ws i 0 / 1 % 2) e)
+one-more ws i n e = rw (add-one i) (λ j. e j + whole (getD ws i 0) j)
 
 none : (ws : List ℕ) → 0 ≡ readsIn 0 ws
 unfolding readsIn

@@ -1,4 +1,4 @@
--- `bank::bursts::all_carried` meets its contract.
+-- `burst_commands::all_carried` meets its contract.
 use Prim.Native.Nat.{ℕ, suc, _+_, _-_, _≤_, _<_}
 use mathlib.Core.Path.{_≡_, refl, sym, ap, _∙_}
 use mathlib.Core.Bool.{Bool, true, _&&_}
@@ -7,9 +7,9 @@ use borrow.Author.Needs.{needs}
 use native.Mathlib.Omega.{arith}
 use native.Mathlib.Numerals.{add-one}
 use lib.ListN.{getD}
 use Rattle.bank.specs.Bursts.{carried, allCarried}
-use Rattle.bank.proofs.bursts.all_carried.Statement.{statement}
-use Rattle.bank.proofs.bursts.all_carried.Tie as tie
+use Rattle.burst_commands.proofs.all_carried.Statement.{statement}
+use Rattle.burst_commands.proofs.all_carried.Tie as tie
 
 -- one command more
 one-more : (ws : List ℕ) (i : ℕ) (b : Bool) → b ≡ allCarried i ws → (b && carried (getD ws i 0)) ≡ allCarried (i + 1) ws

@@ -1,18 +1,17 @@
 // Which commands an offload burst runs, and where it stands.
 ghost use mathlib.Core.Path.{_≡_};
 ghost use Prim.Native.Nat.{_≤_};
 ghost use Rattle.bank.specs.Bursts.{offloads, span, carried, allCarried, readsIn, bursting, opens, gatheredBytes};
-use crate::Control;
-use crate::Phase;
-use crate::Regs;
-use crate::phases;
+use bank::Control;
+use bank::Phase;
+use bank::Regs;
 use ring::Bytes;
 
 // Whether OPS has offload mode.
 pub fn is_offload(g: Regs) -> bool
     ensures { λ b. ⌜ b ≡ offloads g ⌝ }
 {
-    g.ops / 1 % 2 == 1
+    bank::low_bit(g.ops as u32)
 }
 
 // How many offload commands a burst runs.
@@ -50,7 +49,7 @@ pub fn reads_in(commands: &[u32; 16], n: usize) -> usize
     let mut count: usize = 0;
     for i in 0..n {
         let w = commands[i];
-        count = count + (w / 1 % 2) as usize;
+        count = count + (w % 2) as usize;
     }
     count
 }
@@ -68,12 +67,11 @@ pub fn is_open(w: u32, p: Phase) -> bool
 {
     let t = phases::transfer_of(p);
     let k = t.kind;
-    let header = crate::select(t.header, 1, 0);
-    let stage = crate::select(w / 1 % 2 == 1, phases::READING, phases::WRITING);
+    let header = bank::select(t.header, 1, 0);
     phases::is_private(k)
         & (header == w / 0x200000 % 2)
         & (t.length.0 == w / 256 % 4096)
-        & (phases::stage_of(p) == stage)
+        & bank::choose(bank::low_bit(w), phases::is_reading(p), phases::is_writing(p))
 }
 
 // The bytes that the part word of a burst's transfer holds.
@@ -81,6 +79,6 @@ pub fn gathered_bytes(p: Phase) -> Bytes
     ensures { λ n. ⌜ n .0 ≡ gatheredBytes p ⌝ }
 {
     let t = phases::transfer_of(p);
-    let n = crate::select(phases::stage_of(p) == phases::READING, t.moved.0, 0);
+    let n = bank::select(phases::is_reading(p), t.moved.0, 0);
     Bytes(n)
 }

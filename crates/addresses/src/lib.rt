@@ -33,8 +33,8 @@ fn request_number(st: State) -> u32
     let idle = phases::is_idle(p);
     let barred = !phases::is_assigning(p) | phases::is_requested(p);
     let room = bank::room(st.caps.sdi.0, st.levels.sdi.0);
-    let n = bank::select(room < 2, 13, 0);
-    let n = bank::select(barred, 10, n);
+    let n = bank::select(room < 2, number::NO_ROOM, 0);
+    let n = bank::select(barred, number::NOT_THIS_KIND, n);
     effect::while_open(st.control.held, idle, n)
 }
 
@@ -61,8 +61,8 @@ fn take_number(st: State) -> u32
     let p = st.phase;
     let idle = phases::is_idle(p);
     let none = st.levels.sdo.0 == 0;
-    let n = bank::select(none, 12, 0);
-    let n = bank::select(!phases::is_requested(p), 10, n);
+    let n = bank::select(none, number::SDO_EMPTY, 0);
+    let n = bank::select(!phases::is_requested(p), number::NOT_THIS_KIND, n);
     effect::while_open(st.control.held, idle, n)
 }
 
@@ -96,7 +96,7 @@ pub fn take_address(st: State, word: u32) -> Effect
     let next = replied(odd, phases::transfer_of(p));
     let g = st.regs;
     let c = ask(st.control, !odd & (st.levels.sdo.0 <= 1));
-    let n = bank::select(odd, 0, 19);
+    let n = bank::select(odd, 0, number::WRONG_PARITY);
     let o = effect::on_sdo(true, Op::Take(1));
     effect::done(st, word / 33554432, n, g, c, next, o)
 }

@@ -3,6 +3,7 @@ use Prim.Native.Nat.{ℕ, _+_}
 use mathlib.Core.Bool.{Bool, true, false, cond, _&&_}
 use lib.Dec.{leb}
 use lib.ListN.{replicate}
+use Rattle.number.specs.Names as number
 use Rattle.ring.specs.Units.{words}
 use Rattle.bank.specs.declared.Counts.{Counts}
 use Rattle.bank.specs.declared.Heads.{Heads}
@@ -53,7 +54,7 @@ bankOf c m held id =
 
 -- "23 with a bank whose every number is 0"
 abbrev pub refused : SetUp
-refused = record { bank = bankOf zeros zeros false 0; answer = record { value = 0; number = 23 } }
+refused = record { bank = bankOf zeros zeros false 0; answer = record { value = 0; number = number.setUpOutOfRange } }
 
 -- "Set-up gives 0 with a bank held in reset"; "ID is 0 to 255"
 unfoldable pub setUp : Sizes → Sizes → ℕ → SetUp

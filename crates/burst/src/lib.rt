@@ -43,7 +43,7 @@ fn send_number(st: State, commands: &[u32; 16], len: usize) -> u32
 {
     let p = st.phase;
     let n = payload_bytes::byte_number(st, phases::is_writing(p), 0);
-    bank::select(trigger::is_lacking(st.regs, commands, len), 13, n)
+    bank::select(trigger::is_lacking(st.regs, commands, len), number::NO_ROOM, n)
 }
 
 // A byte sent: of the offload data word, as many places from its top as bytes have moved.
@@ -73,7 +73,7 @@ fn receive_number(st: State, commands: &[u32; 16], len: usize) -> u32
 {
     let p = st.phase;
     let n = payload_bytes::byte_number(st, phases::is_reading(p), 0);
-    bank::select(trigger::is_lacking(st.regs, commands, len), 13, n)
+    bank::select(trigger::is_lacking(st.regs, commands, len), number::NO_ROOM, n)
 }
 
 // A byte received: it stays in the part word until the finish.
@@ -105,9 +105,9 @@ fn finish_number(st: State, commands: &[u32; 16], len: usize, code: u8) -> u32
     let p = st.phase;
     let idle = phases::is_idle(p);
     let ends = endings::is_allowed(p, code);
-    let n = bank::select(!ends, 14, 0);
+    let n = bank::select(!ends, number::ENDING_NOT_ALLOWED, 0);
     let n = effect::while_open(st.control.held, idle, n);
-    bank::select(trigger::is_lacking(st.regs, commands, len), 13, n)
+    bank::select(trigger::is_lacking(st.regs, commands, len), number::NO_ROOM, n)
 }
 
 // Where the burst stands after the transfer of command number `n`, counted from 1.

@@ -66,7 +66,7 @@ pub fn decide(
     ensures { λ e. ⌜ ((o : List ℕ) → length o ≡ len → (let t = tables (now (flags .entry)) (now (commands .entry)) (now (payloads .entry)) o in effectOf e t ≡ verdict (λ v. decide v call) (view st h t (now (store .entry))))) ⌝ }
 {
     if is_misfit(call) {
-        return effect::refuse(st, 18);
+        return effect::refuse(st, number::OUT_OF_RANGE);
     }
     if burst_commands::is_bursting(st.control) & is_event(call) {
         return offload::event(st, flags, commands, payloads, len, call);

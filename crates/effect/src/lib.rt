@@ -2,6 +2,7 @@
 // Whoever settles an effect moves queues and tables by it. No engine is here: an effect says nothing of where queues lie.
 ghost use mathlib.Core.Path.{_≡_};
 ghost use mathlib.Core.Bool.{cond, not};
+ghost use Rattle.number.specs.Names as number;
 ghost use Rattle.model.specs.View.{Tables, each};
 ghost use Rattle.model.specs.Decision.{keep, clear, push, keepAll, unchanged, _withNumber_};
 ghost use Rattle.effect.specs.Effects.{opOf, opsOf, tablesBy, effectOf};
@@ -54,16 +55,16 @@ pub struct Effect {
 
 // The number of an event that runs an open transfer: 5 in reset, 7 where none is open, then `n`.
 pub fn while_open(held: bool, idle: bool, n: u32) -> u32
-    ensures { λ r. ⌜ r ≡ cond held 5 (cond idle 7 n) ⌝ }
+    ensures { λ r. ⌜ r ≡ cond held number.heldInReset (cond idle number.noTransfer n) ⌝ }
 {
-    bank::select(held, 5, bank::select(idle, 7, n))
+    bank::select(held, number::HELD_IN_RESET, bank::select(idle, number::NO_TRANSFER, n))
 }
 
 // The number of an event that begins where none is open: 5 in reset, 6 where one is, then `n`.
 pub fn while_idle(held: bool, idle: bool, n: u32) -> u32
-    ensures { λ r. ⌜ r ≡ cond held 5 (cond (not idle) 6 n) ⌝ }
+    ensures { λ r. ⌜ r ≡ cond held number.heldInReset (cond (not idle) number.transferOpen n) ⌝ }
 {
-    bank::select(held, 5, bank::select(!idle, 6, n))
+    bank::select(held, number::HELD_IN_RESET, bank::select(!idle, number::TRANSFER_OPEN, n))
 }
 
 // ── Operations ─────────────────────────────────────────────────────────────────────────────────────────────────

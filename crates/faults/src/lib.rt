@@ -9,6 +9,6 @@ pub fn fault(b: Bank, len: usize) -> u32
 {
     let ok = formed::well_formed(b);
     let total = bank::total_of(b.state.caps);
-    let n = bank::select(!(len == total), 22, 0);
-    bank::select(!ok, 21, n)
+    let n = bank::select(!(len == total), number::STORE_LENGTH, 0);
+    bank::select(!ok, number::NOT_WELL_FORMED, n)
 }

@@ -33,8 +33,8 @@ fn finish_number(st: State, code: u8) -> u32
     let k = st.caps;
     let l = st.levels;
     let full = (k.cmdr.0 <= l.cmdr.0) | (pads & (k.sdi.0 <= l.sdi.0));
-    let n = bank::select(full, 13, 0);
-    let n = bank::select(!ends, 14, n);
+    let n = bank::select(full, number::NO_ROOM, 0);
+    let n = bank::select(!ends, number::ENDING_NOT_ALLOWED, n);
     effect::while_open(st.control.held, idle, n)
 }
 

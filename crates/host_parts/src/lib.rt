@@ -31,7 +31,7 @@ pub fn refused(number: u32) -> u64
 pub fn no_call(b: Bank) -> u64
     ensures { λ r. ⌜ r ≡ packedOf (record { value = 0; number = cond (wellFormed b) 27 21 }) ⌝ }
 {
-    refused(bank::select(formed::well_formed(b), 27, 21))
+    refused(bank::select(formed::well_formed(b), number::WRONG_RECORD, 21))
 }
 
 // Whether numbers fit a record, and whether they are the trigger's.

@@ -23,9 +23,9 @@ fn interrupt_number(st: State, f: u8) -> u32
     let listens = config / 2 % 2 == 1;
     let admits = bank::low_bit(config as u32) & bank::low_bit(f as u32) & (f / 2 % 2 == 1);
     let full = st.caps.ibi.0 <= st.levels.ibi.0;
-    let n = bank::select(full, 13, 0);
-    let n = bank::select(!admits, 17, n);
-    let n = bank::select(!listens, 16, n);
+    let n = bank::select(full, number::NO_ROOM, 0);
+    let n = bank::select(!admits, number::NOT_ACKNOWLEDGED, n);
+    let n = bank::select(!listens, number::NOT_HEARD, n);
     effect::while_idle(st.control.held, idle, n)
 }
 

@@ -6,6 +6,7 @@ use mathlib.Core.Bool.{Bool, true, false, cond, not, _&&_}
 use mathlib.Core.List.{List, [], _∷_, _++_}
 use lib.Dec.{eqb}
 use lib.ListN.{length, getD, drop}
+use Rattle.number.specs.Names as number
 use Rattle.bank.specs.Queues.{queuesIn}
 use Rattle.bank.specs.declared.Answer.{Answer}
 use Rattle.bank.specs.Bits.{bit, bits}
@@ -128,4 +129,4 @@ BurstIsBusy =
     (l : Controller) (cs : List Call) (a byte : ℕ) → step rings l Trigger .answer .number ≡ 0 → noReset cs ≡ true → a ≤ 127
     → let b = step rings l Trigger .next in
     suc (length (logged (record { done = []; now = untouched }) b cs .done)) ≤ span (l .bank .state .regs)
-    → step rings (after b cs) (Interrupt a byte) .answer ≡ record { value = 0; number = 6 }
+    → step rings (after b cs) (Interrupt a byte) .answer ≡ record { value = 0; number = number.transferOpen }

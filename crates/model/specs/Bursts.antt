@@ -3,6 +3,7 @@ use Prim.Native.Nat.{ℕ, _+_, _-_, _*_, _/_, _%_, _^_}
 use mathlib.Core.Bool.{Bool, false, cond, not, _&&_}
 use lib.Dec.{leb, ltb, eqb}
 use lib.ListN.{length, getD, set}
+use Rattle.number.specs.Names as number
 use Rattle.bank.specs.declared.Control.{Control}
 use Rattle.bank.specs.declared.Phase.{Phase}
 use Rattle.bank.specs.declared.Phase.the-variants.{Idle, Writing, Reading}
@@ -37,12 +38,12 @@ short s = bursting (s .control) && lacking s
 -- ── Trigger: "5 and 6 as for start, then 8 when mode is 0, 28 length field 0, 29 a command not carried, 13" ───
 unfoldable pub trigger : View → Decision
 trigger s =
-    s .control .held ⇒ 5
-    ∣ busy s ⇒ 6
-    ∣ not (offloads (s .regs)) ⇒ 8
-    ∣ eqb (span (s .regs)) 0 ⇒ 28
-    ∣ not (allCarried (span (s .regs)) (s .tables .commands)) ⇒ 29
-    ∣ lacking s ⇒ 13
+    s .control .held ⇒ number.heldInReset
+    ∣ busy s ⇒ number.transferOpen
+    ∣ not (offloads (s .regs)) ⇒ number.notInThisMode
+    ∣ eqb (span (s .regs)) 0 ⇒ number.burstHasNoCommands
+    ∣ not (allCarried (span (s .regs)) (s .tables .commands)) ⇒ number.notCarried
+    ∣ lacking s ⇒ number.noRoom
     ∣ does (unchanged s withControl standing 1 (s .control) withPhase opening s 0)
 
 -- ── 01's events in an open burst ──────────────────────────────────────────────────────────────────────────────
@@ -53,21 +54,21 @@ dataWord s = getD (s .tables .payloads) (writesIn (place (s .control)) (s .table
 unfoldable pub burstSend : View → Decision
 burstSend s =
     let t = transfer (s .phase) in
-    s .control .held ⇒ 5
-    ∣ idle (s .phase) ⇒ 7
-    ∣ unattached (s .phase) ⇒ 20
-    ∣ not (writing (s .phase)) ⇒ 10
-    ∣ reached t ⇒ 11
+    s .control .held ⇒ number.heldInReset
+    ∣ idle (s .phase) ⇒ number.noTransfer
+    ∣ unattached (s .phase) ⇒ number.notAttached
+    ∣ not (writing (s .phase)) ⇒ number.notThisKind
+    ∣ reached t ⇒ number.lengthReached
     ∣ does (unchanged s withValue dataWord s / 2 ^ (24 - 8 * t .moved .0) % 256 withPhase Writing (advanced t 0))
 
 unfoldable pub burstReceive : View → ℕ → Decision
 burstReceive s byte =
     let t = transfer (s .phase) in
-    s .control .held ⇒ 5
-    ∣ idle (s .phase) ⇒ 7
-    ∣ unattached (s .phase) ⇒ 20
-    ∣ not (reading (s .phase)) ⇒ 10
-    ∣ reached t ⇒ 11
+    s .control .held ⇒ number.heldInReset
+    ∣ idle (s .phase) ⇒ number.noTransfer
+    ∣ unattached (s .phase) ⇒ number.notAttached
+    ∣ not (reading (s .phase)) ⇒ number.notThisKind
+    ∣ reached t ⇒ number.lengthReached
     ∣ does (unchanged s withPhase Reading (advanced t (t .part + byte * 2 ^ (24 - 8 * t .moved .0))))
 
 -- the transfer is that of the last command
@@ -86,15 +87,15 @@ delivered s =
 unfoldable pub burstFinish : View → ℕ → Decision
 burstFinish s code =
     let n = s .control .burst in
-    s .control .held ⇒ 5
-    ∣ idle (s .phase) ⇒ 7
-    ∣ not (allowed (s .phase) code) ⇒ 14
+    s .control .held ⇒ number.heldInReset
+    ∣ idle (s .phase) ⇒ number.noTransfer
+    ∣ not (allowed (s .phase) code) ⇒ number.endingNotAllowed
     ∣ does (unchanged s withControl standing (cond (lastly s) 0 (n + 1)) (s .control) withPhase cond (lastly s) Idle (opening s n) withTables delivered s)
 
 -- ── Any call ──────────────────────────────────────────────────────────────────────────────────────────────────
 -- an event: outside a burst as 01 says it, inside by the burst
 abbrev pub within : View → Decision → Decision → Decision
-within s inside outside = short s ⇒ 13 ∣ cond (bursting (s .control)) inside outside
+within s inside outside = short s ⇒ number.noRoom ∣ cond (bursting (s .control)) inside outside
 
 -- 18: the code of a finish or the address of an interrupt request is out of its range
 abbrev pub misfit : Call → Bool
@@ -114,11 +115,11 @@ misfit Trigger = false
 abbrev pub decide : View → Call → Decision
 decide s (Read o) = read (row (registerAt o)) s
 decide s (Write o v) = write (row (registerAt o)) s v
-decide s Start = short s ⇒ 13 ∣ start s
+decide s Start = short s ⇒ number.noRoom ∣ start s
 decide s Send = within s (burstSend s) (send s)
 decide s (Receive byte) = within s (burstReceive s byte) (receive s byte)
-decide s (Finish code) = misfit (Finish code) ⇒ 18 ∣ within s (burstFinish s code) (finish s code)
-decide s (Interrupt a byte) = misfit (Interrupt a byte) ⇒ 18 ∣ short s ⇒ 13 ∣ interrupt s a byte
-decide s (Request v w) = short s ⇒ 13 ∣ request s v w
-decide s Take = short s ⇒ 13 ∣ takeAddress s
-decide s Trigger = short s ⇒ 13 ∣ trigger s
+decide s (Finish code) = misfit (Finish code) ⇒ number.outOfRange ∣ within s (burstFinish s code) (finish s code)
+decide s (Interrupt a byte) = misfit (Interrupt a byte) ⇒ number.outOfRange ∣ short s ⇒ number.noRoom ∣ interrupt s a byte
+decide s (Request v w) = short s ⇒ number.noRoom ∣ request s v w
+decide s Take = short s ⇒ number.noRoom ∣ takeAddress s
+decide s Trigger = short s ⇒ number.noRoom ∣ trigger s

@@ -4,6 +4,7 @@ use Prim.Native.Nat.{ℕ, _+_, _-_, _*_, _/_, _%_, _^_}
 use mathlib.Core.Bool.{Bool, true, false, cond, not, _&&_, _||_}
 use lib.Dec.{leb, ltb, eqb}
 use lib.Count.{ones}
+use Rattle.number.specs.Names as number
 use Rattle.ring.specs.Units.{bytes, wordsFor}
 use Rattle.bank.specs.declared.Control.{Control}
 use Rattle.bank.specs.declared.Transfer.{Transfer}
@@ -41,11 +42,11 @@ unfoldable pub start : View → Decision
 start s =
     let q = s .queues in
     let c = command (q .cmd) in
-    s .control .held ⇒ 5
-    ∣ busy s ⇒ 6
-    ∣ bit 0 (s .regs .ops) ⇒ 8
-    ∣ not (whole (q .cmd)) ⇒ 9
-    ∣ isEntdaa c && not (empty (q .sdo)) ⇒ 15
+    s .control .held ⇒ number.heldInReset
+    ∣ busy s ⇒ number.transferOpen
+    ∣ bit 0 (s .regs .ops) ⇒ number.notInThisMode
+    ∣ not (whole (q .cmd)) ⇒ number.noCommand
+    ∣ isEntdaa c && not (empty (q .sdo)) ⇒ number.sdoNotEmpty
     ∣ does (unchanged s withValue firstWord c withPhase begun c (attached s c) withQueues each (take (wordCount (q .cmd))) keep keep keep keep)
 
 -- ── Bytes ─────────────────────────────────────────────────────────────────────────────────────────────────────
@@ -71,12 +72,12 @@ unfoldable pub send : View → Decision
 send s =
     let t = transfer (s .phase) in
     let w = cond (fresh t) (s .queues .sdo .first) (t .part) in
-    s .control .held ⇒ 5
-    ∣ idle (s .phase) ⇒ 7
-    ∣ unattached (s .phase) ⇒ 20
-    ∣ not (writing (s .phase)) ⇒ 10
-    ∣ reached t ⇒ 11
-    ∣ fresh t && empty (s .queues .sdo) ⇒ 12
+    s .control .held ⇒ number.heldInReset
+    ∣ idle (s .phase) ⇒ number.noTransfer
+    ∣ unattached (s .phase) ⇒ number.notAttached
+    ∣ not (writing (s .phase)) ⇒ number.notThisKind
+    ∣ reached t ⇒ number.lengthReached
+    ∣ fresh t && empty (s .queues .sdo) ⇒ number.sdoEmpty
     ∣ does (unchanged s withValue w / 2 ^ 24 % 256 withPhase Writing (advanced t (w % 2 ^ 24 * 2 ^ 8)) withQueues each keep keep (cond (fresh t) (take 1) keep) keep keep)
 
 -- Receive a byte: "5, 7, 20, 10 (a write or ENTDAA), 11, 13. A word goes to SDI with its fourth byte; 13 only when that push has no room."
@@ -84,12 +85,12 @@ unfoldable pub receive : View → ℕ → Decision
 receive s byte =
     let t = transfer (s .phase) in
     let w = t .part + byte * 2 ^ (24 - 8 * (t .moved .0 % 4)) in
-    s .control .held ⇒ 5
-    ∣ idle (s .phase) ⇒ 7
-    ∣ unattached (s .phase) ⇒ 20
-    ∣ not (reading (s .phase)) ⇒ 10
-    ∣ reached t ⇒ 11
-    ∣ fills t && full (s .queues .sdi) ⇒ 13
+    s .control .held ⇒ number.heldInReset
+    ∣ idle (s .phase) ⇒ number.noTransfer
+    ∣ unattached (s .phase) ⇒ number.notAttached
+    ∣ not (reading (s .phase)) ⇒ number.notThisKind
+    ∣ reached t ⇒ number.lengthReached
+    ∣ fills t && full (s .queues .sdi) ⇒ number.noRoom
     ∣ does (unchanged s withPhase Reading (advanced t (cond (fills t) 0 w)) withQueues each keep keep keep (cond (fills t) (push w) keep) keep)
 
 -- ── Finish with a code: "5, 7, 14, 13" ────────────────────────────────────────────────────────────────────────
@@ -129,10 +130,10 @@ finish s code =
     let t = transfer (s .phase) in
     let q = s .queues in
     let r = receiptWord code (t .moved .0) (s .control .sync) in
-    s .control .held ⇒ 5
-    ∣ idle (s .phase) ⇒ 7
-    ∣ not (allowed (s .phase) code) ⇒ 14
-    ∣ full (q .cmdr) || (padded (s .phase) && full (q .sdi)) ⇒ 13
+    s .control .held ⇒ number.heldInReset
+    ∣ idle (s .phase) ⇒ number.noTransfer
+    ∣ not (allowed (s .phase) code) ⇒ number.endingNotAllowed
+    ∣ full (q .cmdr) || (padded (s .phase) && full (q .sdi)) ⇒ number.noRoom
     ∣ does (unchanged s withValue r withControl receipted (s .control) withPhase Idle withQueues each keep (push r) keep (cond (padded (s .phase)) (push (t .part)) keep) keep)
 
 -- ── Interrupt request: "5, 6, 16 (listen 0), 17 (enable 0, or not attached, or may not interrupt), 13" ────────
@@ -145,11 +146,11 @@ unfoldable pub interrupt : View → ℕ → ℕ → Decision
 interrupt s a byte =
     let f = device a s in
     let e = entryWord a (cond (bit 2 f) byte 0) (s .control .ibisync) in
-    s .control .held ⇒ 5
-    ∣ busy s ⇒ 6
-    ∣ not (bit 1 (s .regs .config)) ⇒ 16
-    ∣ not (bit 0 (s .regs .config) && bit 0 f && bit 1 f) ⇒ 17
-    ∣ full (s .queues .ibi) ⇒ 13
+    s .control .held ⇒ number.heldInReset
+    ∣ busy s ⇒ number.transferOpen
+    ∣ not (bit 1 (s .regs .config)) ⇒ number.notHeard
+    ∣ not (bit 0 (s .regs .config) && bit 0 f && bit 1 f) ⇒ number.notAcknowledged
+    ∣ full (s .queues .ibi) ⇒ number.noRoom
     ∣ does (unchanged s withValue e withControl interrupted (s .control) withQueues each keep keep keep keep (push e))
 
 -- ── Address request: "5, 7, 10 (not ENTDAA, or one is open), 13 (SDI room below 2). Pushes both." ─────────────
@@ -159,10 +160,10 @@ asked b c = pending (c .cmdrpending) (c .ibipending) (c .daapending || b) c
 
 unfoldable pub request : View → ℕ → ℕ → Decision
 request s v w =
-    s .control .held ⇒ 5
-    ∣ idle (s .phase) ⇒ 7
-    ∣ not (assigning (s .phase)) || requested (s .phase) ⇒ 10
-    ∣ ltb (room (s .queues .sdi)) 2 ⇒ 13
+    s .control .held ⇒ number.heldInReset
+    ∣ idle (s .phase) ⇒ number.noTransfer
+    ∣ not (assigning (s .phase)) || requested (s .phase) ⇒ number.notThisKind
+    ∣ ltb (room (s .queues .sdi)) 2 ⇒ number.noRoom
     ∣ does (unchanged s withControl asked (empty (s .queues .sdo)) (s .control) withPhase Requested (transfer (s .phase)) withQueues each keep keep keep (push2 v w) keep)
 
 -- ── Address take: "5, 7, 10 (not ENTDAA, or none open), 12" ───────────────────────────────────────────────────
@@ -172,8 +173,8 @@ takeAddress s =
     let q = s .queues .sdo in
     let t = transfer (s .phase) in
     let odd = eqb (ones (q .first / 2 ^ 24) % 2) 1 in
-    s .control .held ⇒ 5
-    ∣ idle (s .phase) ⇒ 7
-    ∣ not (requested (s .phase)) ⇒ 10
-    ∣ empty q ⇒ 12
-    ∣ does (unchanged s withValue q .first / 2 ^ 25 withNumber cond odd 0 19 withControl asked (not odd && last q) (s .control) withPhase cond odd (Answered t) (Requested t) withQueues each keep keep (take 1) keep keep)
+    s .control .held ⇒ number.heldInReset
+    ∣ idle (s .phase) ⇒ number.noTransfer
+    ∣ not (requested (s .phase)) ⇒ number.notThisKind
+    ∣ empty q ⇒ number.sdoEmpty
+    ∣ does (unchanged s withValue q .first / 2 ^ 25 withNumber cond odd 0 number.wrongParity withControl asked (not odd && last q) (s .control) withPhase cond odd (Answered t) (Requested t) withQueues each keep keep (take 1) keep keep)

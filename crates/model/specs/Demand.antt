@@ -7,6 +7,7 @@ use mathlib.Core.List.{List, [], _∷_, _++_}
 use mathlib.Core.Option.{Option, none, some}
 use lib.Dec.{ltb, eqb}
 use lib.ListN.{length, take}
+use Rattle.number.specs.Names as number
 use Rattle.bank.specs.Queues.{queuesIn}
 use Rattle.bank.specs.declared.Sizes.{Sizes}
 use Rattle.bank.specs.declared.Control.{Control}
@@ -58,7 +59,7 @@ event (Receive byte) a = cond (eqb (a .number) 0) (bus received) other
 event (Finish code) a = cond (eqb (a .number) 0) (bus (finished code (a .value))) other
 event (Interrupt d byte) a = other
 event (Request v w) a = cond (eqb (a .number) 0) (bus addressed) other
-event Take a = cond (eqb (a .number) 0 || eqb (a .number) 19) (bus addressed) other
+event Take a = cond (eqb (a .number) 0 || eqb (a .number) number.wrongParity) (bus addressed) other
 event Trigger a = other
 
 -- ── The tally since the last release ──────────────────────────────────────────────────────────────────────────

@@ -4,6 +4,7 @@ use mathlib.Core.Path.{_≡_}
 use mathlib.Core.Bool.{Bool, true, false, cond, _&&_, _||_}
 use mathlib.Core.List.{List, [], _∷_}
 use lib.ListN.{length, getD, drop}
+use Rattle.number.specs.Names as number
 use Rattle.bank.specs.Queues.{queuesIn}
 use Rattle.bank.specs.declared.Control.{Control}
 use Rattle.bank.specs.declared.Sizes.{Sizes}
@@ -148,6 +149,6 @@ noRoom s = full (s .queues .cmdr) || (padded (s .phase) && full (s .queues .sdi)
 
 unfoldable pub RefusedFinishAgain : Type 0
 RefusedFinishAgain =
-    (l : Controller) (code : ℕ) (os : List ℕ) → bursting (l .bank .state .control) ≡ false → step rings l (Finish code) .answer .number ≡ 13
+    (l : Controller) (code : ℕ) (os : List ℕ) → bursting (l .bank .state .control) ≡ false → step rings l (Finish code) .answer .number ≡ number.noRoom
     → let m = final rings (step rings l (Finish code) .next) (lending (l .output) (reads os)) in
-    step rings m (Finish code) .answer ≡ cond (noRoom (viewRings m)) (record { value = 0; number = 13 }) (record { value = receiptWord code (transfer (l .bank .state .phase) .moved .0) (l .bank .state .control .sync); number = 0 })
+    step rings m (Finish code) .answer ≡ cond (noRoom (viewRings m)) (record { value = 0; number = number.noRoom }) (record { value = receiptWord code (transfer (l .bank .state .phase) .moved .0) (l .bank .state .control .sync); number = 0 })

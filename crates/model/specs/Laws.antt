@@ -4,6 +4,7 @@ use mathlib.Core.Path.{_≡_}
 use mathlib.Core.Bool.{Bool, true, false, _||_}
 use mathlib.Core.List.{List, []}
 use lib.ListN.{length}
+use Rattle.number.specs.Names as number
 use Rattle.bank.specs.Queues.{queuesIn}
 use Rattle.bank.specs.declared.Sizes.{Sizes}
 use Rattle.bank.specs.SetUp.{setUp, total}
@@ -45,17 +46,17 @@ abbrev pub refused : Controller → ℕ → Step Controller
 refused l n = record { answer = record { value = 0; number = n }; next = l }
 
 unfoldable pub IllFormed : Type 0
-IllFormed = (l : Controller) (c : Call) → wellFormed (l .bank) ≡ false → step rings l c ≡ refused l 21
+IllFormed = (l : Controller) (c : Call) → wellFormed (l .bank) ≡ false → step rings l c ≡ refused l number.notWellFormed
 
 unfoldable pub WrongLength : Type 0
 WrongLength =
     (l : Controller) (c : Call) → wellFormed (l .bank) ≡ true → (length (l .store) ≡ total (l .bank .state .caps) → ⊥)
-    → step rings l c ≡ refused l 22
+    → step rings l c ≡ refused l number.storeLength
 
 -- Any number but 0 and 19 leaves bank, store and output as they were, and the value is 0.
 unfoldable pub RefusalChangesNothing : Type 0
 RefusalChangesNothing =
-    (l : Controller) (c : Call) → let r = step rings l c in (r .answer .number ≡ 0 → ⊥) → (r .answer .number ≡ 19 → ⊥) → (r .next ≡ l) × (r .answer .value ≡ 0)
+    (l : Controller) (c : Call) → let r = step rings l c in (r .answer .number ≡ 0 → ⊥) → (r .answer .number ≡ number.wrongParity → ⊥) → (r .next ≡ l) × (r .answer .value ≡ 0)
 
 -- A set-up answered 0 gives a well-formed bank; it stays so over every call, and a store keeps its length.
 unfoldable pub SetUpWellFormed : Type 0

@@ -3,6 +3,7 @@ use Prim.Native.Nat.{ℕ, _+_, _*_, _%_, _^_}
 use mathlib.Core.Bool.{Bool, true, false, cond, not, _&&_}
 use lib.Dec.{ltb}
 use lib.ListN.{getD, set}
+use Rattle.number.specs.Names as number
 use Rattle.bank.specs.declared.Regs.{Regs}
 use Rattle.bank.specs.declared.Control.{Control}
 use Rattle.bank.specs.declared.Phase.the-variants.{Idle}
@@ -150,22 +151,22 @@ enable s false = unchanged s withControl released (s .control)
 -- ── Reads and writes, by their row ────────────────────────────────────────────────────────────────────────────
 -- "For accesses: 21, 22, 4, 2, 5, 1, 3", with 02 §3's 6 after 4; 21 and 22 stand before every call
 abbrev pub read : Row → View → Decision
-read absent s = true ⇒ 4 ∣ does (unchanged s)
+read absent s = true ⇒ number.noRegister ∣ does (unchanged s)
 read (shows f) s = does (unchanged s withValue f s)
 read (holds c) s = does (unchanged s withValue shown c s)
 read (pushes q) s = does (unchanged s)
 read (takes q) s =
     let v = of q (s .queues) in
-    empty v ⇒ 3 ∣ does (unchanged s withValue v .first withControl clears q (last v) (s .control) withQueues only q (take 1))
+    empty v ⇒ number.empty ∣ does (unchanged s withValue v .first withControl clears q (last v) (s .control) withQueues only q (take 1))
 read enables s = does (unchanged s withValue weigh (s .control .held) 1)
 read acknowledges s = does (unchanged s withValue sources (s .regs .mask) s)  -- "reads source AND mask"
 
 abbrev pub write : Row → View → ℕ → Decision
-write absent s v = true ⇒ 4 ∣ does (unchanged s)
-write (shows f) s v = true ⇒ 2 ∣ does (unchanged s)
-write (holds c) s v = burstHolds c && bursting (s .control) ⇒ 6 ∣ does (unchanged s withRegs storedRegs c v (s .regs) withTables storedTables c v (s .tables))
+write absent s v = true ⇒ number.noRegister ∣ does (unchanged s)
+write (shows f) s v = true ⇒ number.droppedReadOnly ∣ does (unchanged s)
+write (holds c) s v = burstHolds c && bursting (s .control) ⇒ number.transferOpen ∣ does (unchanged s withRegs storedRegs c v (s .regs) withTables storedTables c v (s .tables))
 write (pushes q) s v =
-    s .control .held ⇒ 5 ∣ full (of q (s .queues)) ⇒ 1 ∣ does (unchanged s withControl clears q true (s .control) withQueues only q (push v))
-write (takes q) s v = true ⇒ 2 ∣ does (unchanged s)
+    s .control .held ⇒ number.heldInReset ∣ full (of q (s .queues)) ⇒ number.droppedFull ∣ does (unchanged s withControl clears q true (s .control) withQueues only q (push v))
+write (takes q) s v = true ⇒ number.droppedReadOnly ∣ does (unchanged s)
 write enables s v = does (enable s (bit 0 v))
 write acknowledges s v = does (unchanged s withControl acknowledged v (s .control))

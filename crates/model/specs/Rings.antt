@@ -4,6 +4,7 @@ use mathlib.Core.Bool.{not}
 use mathlib.Core.List.{List}
 use lib.Dec.{eqb}
 use lib.ListN.{length, getD, set}
+use Rattle.number.specs.Names as number
 use Rattle.ring.specs.declared.Ring.{Ring}
 use Rattle.ring.specs.Ring.{placeOf, pushedOf, takenOf, clearedOf, entries}
 use Rattle.bank.specs.declared.Counts.{Counts}
@@ -107,7 +108,7 @@ settleRings l e =
 
 -- "21 goes first, then 22"
 unfoldable pub guardRings : Controller → Decision → Decision
-guardRings l d = not (wellFormed (l .bank)) ⇒ 21 ∣ not (eqb (length (l .store)) (total (l .bank .state .caps))) ⇒ 22 ∣ d
+guardRings l d = not (wellFormed (l .bank)) ⇒ number.notWellFormed ∣ not (eqb (length (l .store)) (total (l .bank .state .caps))) ⇒ number.storeLength ∣ d
 
 abbrev pub rings : Engine Controller
 rings = record { view = viewRings; guard = guardRings; settle = settleRings; lend = λ o l. record { bank = l .bank; store = l .store; output = o } }

@@ -23,7 +23,7 @@ pub fn bar(st: State, lacks: bool, n: u32) -> Effect
 {
     effect::refuse(
         st,
-        bank::select(lacks, 13, bank::select(st.control.held, 5, n)),
+        bank::select(lacks, number::NO_ROOM, bank::select(st.control.held, number::HELD_IN_RESET, n)),
     )
 }
 
@@ -41,8 +41,8 @@ pub fn event(
 {
     let lacks = trigger::is_lacking(st.regs, commands, len);
     match call {
-        Call::Read(_) => effect::refuse(st, 13),
-        Call::Write(_, _) => effect::refuse(st, 13),
+        Call::Read(_) => effect::refuse(st, number::NO_ROOM),
+        Call::Write(_, _) => effect::refuse(st, number::NO_ROOM),
         Call::Start => bar(st, lacks, 6),
         Call::Send => burst::send(st, commands, payloads, len),
         Call::Receive(byte) => burst::receive(st, commands, len, byte),

@@ -26,9 +26,9 @@ pub fn byte_number(st: State, apt: bool, last: u32) -> u32
     let t = phases::transfer_of(p);
     let idle = phases::is_idle(p);
     let absent = phases::is_unattached(p);
-    let n = bank::select(t.length.0 <= t.moved.0, 11, last);
-    let n = bank::select(!apt, 10, n);
-    let n = bank::select(absent, 20, n);
+    let n = bank::select(t.length.0 <= t.moved.0, number::LENGTH_REACHED, last);
+    let n = bank::select(!apt, number::NOT_THIS_KIND, n);
+    let n = bank::select(absent, number::NOT_ATTACHED, n);
     effect::while_open(st.control.held, idle, n)
 }
 

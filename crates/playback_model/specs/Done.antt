@@ -5,6 +5,7 @@ use mathlib.Core.Bool.{false, cond}
 use mathlib.Core.List.{List}
 use lib.Dec.{eqb}
 use lib.ListN.{length}
+use Rattle.number.specs.Names as number
 use Rattle.bank.specs.Formed.{wellFormed}
 use Rattle.model.specs.declared.Call.{Call}
 use Rattle.model.specs.Rings.{Controller}
@@ -27,7 +28,7 @@ doneIn file i limit = callsBefore (wanted file i limit)
 
 -- its number: 24, 25 and 26 come first, then 27 where a wrong record is met
 abbrev pub numberIn : List ℕ → ℕ → ℕ → ℕ
-numberIn file i limit = let n = lookNumber file i in cond (eqb n 0) (cond (anyWrong (wanted file i limit)) 27 0) n
+numberIn file i limit = let n = lookNumber file i in cond (eqb n 0) (cond (anyWrong (wanted file i limit)) number.wrongRecord 0) n
 
 -- whatever the bytes are, and on any bank
 unfoldable pub EveryReplay : Type 0
@@ -37,7 +38,7 @@ EveryReplay = (file : List ℕ) (i limit : ℕ) (l : Controller) → replayOf fi
 abbrev pub all21 : List ℕ → ℕ → ℕ → Told
 all21 file i limit =
     let n = length (doneIn file i limit) in
-    record { number = numberIn file i limit; count = n; answer = record { value = 0; number = cond (eqb n 0) 0 21 } }
+    record { number = numberIn file i limit; count = n; answer = record { value = 0; number = cond (eqb n 0) 0 number.notWellFormed } }
 
 -- a bank that is not well formed: no record changes a thing, and none stops the replay
 unfoldable pub IllFormedReplay : Type 0

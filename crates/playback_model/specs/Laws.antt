@@ -5,6 +5,7 @@ use mathlib.Core.Bool.{Bool, true, false}
 use mathlib.Core.List.{List, [], _∷_, map, foldl}
 use lib.Dec.{leb}
 use lib.ListN.{length, take}
+use Rattle.number.specs.Names as number
 use Rattle.bank.specs.declared.Answer.{Answer}
 use Rattle.bank.specs.declared.Bank.{Bank}
 use Rattle.bank.specs.SetUp.{total}
@@ -47,7 +48,7 @@ OneByOne = (ks : List Call) (bytes : List ℕ) (limit : ℕ) (l : Controller) �
 -- "27 record wrong .., where replay stops with the earlier records done": where the record behind them is wrong, and wanted
 unfoldable pub StopsAtWrong : Type 0
 StopsAtWrong = (ks : List Call) (bytes : List ℕ) (limit : ℕ) (l : Controller) → namedFrom (length ks) bytes 0 ≡ map Named ks → recordAt bytes (length ks) ≡ Skipped → length ks < within limit bytes
-    → played limit bytes l ≡ made 27 ks l
+    → played limit bytes l ≡ made number.wrongRecord ks l
 
 -- a replay that is refused tells that number, did no record, and leaves all as it was
 unfoldable pub RefusedLeavesAll : Type 0
@@ -75,4 +76,4 @@ inRange Trigger = true
 -- 02 §3: "replay lends an empty one". So on a bank with an open burst that has reads, the events of a trace are answered 13, and change nothing
 unfoldable pub BurstUnserved : Type 0
 BurstUnserved = (b : Bank) (store : List ℕ) (k : Call) → wellFormed b ≡ true → length store ≡ total (b .state .caps) → bursting (b .state .control) ≡ true → 0 < readsIn (span (b .state .regs)) (b .commands) → inRange k ≡ true
-    → (let l = controller b store [] in step rings l k ≡ record { answer = record { value = 0; number = 13 }; next = l })
+    → (let l = controller b store [] in step rings l k ≡ record { answer = record { value = 0; number = number.noRoom }; next = l })

@@ -3,6 +3,7 @@ use Prim.Native.Nat.{ℕ, suc}
 use mathlib.Core.Bool.{cond}
 use mathlib.Core.List.{List}
 use lib.Dec.{eqb}
+use Rattle.number.specs.Names as number
 use Rattle.bank.specs.declared.Answer.{Answer}
 use Rattle.model.specs.declared.Call.{Call}
 use Rattle.model.specs.Engine.{step}
@@ -29,7 +30,7 @@ did k r = let s = step rings (r .left) k in telling (r .told .number) (suc (r .t
 
 -- "27 record wrong (letter, zero parts, or a byte, address or code above 255), where replay stops with the earlier records done"
 abbrev pub wrong : Replay → Replay
-wrong r = telling 27 (r .told .count) (r .told .answer) (r .left)
+wrong r = telling number.wrongRecord (r .told .count) (r .told .answer) (r .left)
 
 -- the first records of a section, no more than stated
 abbrev pub played : ℕ → List ℕ → Controller → Replay

@@ -56,6 +56,6 @@ pub fn read(
         ),
         Register::OffloadCmd(i) => show(st, read_rows::offload_word(commands, i)),
         Register::OffloadSdo(i) => show(st, read_rows::offload_word(payloads, i)),
-        Register::Unmapped => effect::refuse(st, 4),
+        Register::Unmapped => effect::refuse(st, number::NO_REGISTER),
     }
 }

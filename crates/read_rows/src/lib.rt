@@ -124,7 +124,7 @@ pub fn read_cmdr(st: State, word: u32) -> Effect
 {
     let level = st.levels.cmdr.0;
     if level == 0 {
-        return effect::refuse(st, 3);
+        return effect::refuse(st, number::EMPTY);
     }
     let g = st.regs;
     let mut c = st.control;
@@ -140,7 +140,7 @@ pub fn read_sdi(st: State, word: u32) -> Effect
 {
     let level = st.levels.sdi.0;
     if level == 0 {
-        return effect::refuse(st, 3);
+        return effect::refuse(st, number::EMPTY);
     }
     let g = st.regs;
     let c = st.control;
@@ -155,7 +155,7 @@ pub fn read_ibi(st: State, word: u32) -> Effect
 {
     let level = st.levels.ibi.0;
     if level == 0 {
-        return effect::refuse(st, 3);
+        return effect::refuse(st, number::EMPTY);
     }
     let g = st.regs;
     let mut c = st.control;

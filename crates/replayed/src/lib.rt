@@ -46,7 +46,7 @@ pub fn reach(s: State, h: Heads, number: u32, count: usize, a: Answer) -> Reache
 pub fn stopped(s: State, h: Heads, done: usize, a: Answer) -> Reached
     ensures { λ r. ⌜ ((t : Tables) (st : List ℕ) → reached r t st ≡ wrong (telling 0 done a (controller (bankWith s h t) st (t .output)))) ⌝ }
 {
-    reach(s, h, 27, done, a)
+    reach(s, h, number::WRONG_RECORD, done, a)
 }
 
 // A bank of a state and its tables, with what was told.

@@ -100,7 +100,7 @@ fn refused_set_up() -> SetUp
     let b = fresh_bank(none, none, false, 0);
     let a = Answer {
         value: 0,
-        number: 23,
+        number: number::SET_UP_OUT_OF_RANGE,
     };
     SetUp { bank: b, answer: a }
 }

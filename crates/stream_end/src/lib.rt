@@ -65,8 +65,8 @@ fn end_number(stage: Stage, held: usize) -> u32
     ensures { λ r. ⌜ r ≡ endNumber stage held ⌝ }
 {
     match stage {
-        Stage::Opening => if held < 4 { 24 } else { 25 },
-        Stage::Records(due) => if due == 0 { 0 } else { 25 },
+        Stage::Opening => if held < 4 { number::WRONG_MARK } else { number::WRONG_TABLE },
+        Stage::Records(due) => if due == 0 { 0 } else { number::WRONG_TABLE },
         Stage::Over => 0,
     }
 }

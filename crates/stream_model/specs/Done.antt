@@ -6,6 +6,7 @@ use mathlib.Core.List.{List, [], _++_}
 use mathlib.Core.Option.{none, some}
 use lib.Dec.{eqb}
 use lib.ListN.{length, drop}
+use Rattle.number.specs.Names as number
 use Rattle.bank.specs.declared.Sizes.{Sizes}
 use Rattle.bank.specs.SetUp.{setUp}
 use Rattle.model.specs.declared.Call.{Call}
@@ -40,9 +41,9 @@ unfoldable pub lastLine : List ℕ → List ℕ
 lastLine file =
     cond (opens mark file)
     (cond (tableSound file)
-    (cond (anyWrong (readIn file)) (lineOf 0 27) (cond (eqb (placeOf file (sections file)) (length file)) [] (lineOf 0 25)))
-    (lineOf 0 25))
-    (lineOf 0 24)
+    (cond (anyWrong (readIn file)) (lineOf 0 number.wrongRecord) (cond (eqb (placeOf file (sections file)) (length file)) [] (lineOf 0 number.wrongTable)))
+    (lineOf 0 number.wrongTable))
+    (lineOf 0 number.wrongMark)
 
 -- every input: a line for each of these calls, made one after another, and the last line
 unfoldable pub EveryInput : Type 0

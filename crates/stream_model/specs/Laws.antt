@@ -5,6 +5,7 @@ use mathlib.Core.Bool.{Bool, true, false, cond, _&&_}
 use mathlib.Core.List.{List, [], _∷_, _++_, foldl, flatten}
 use lib.Dec.{leb}
 use lib.ListN.{length, drop}
+use Rattle.number.specs.Names as number
 use Rattle.model.specs.declared.Call.{Call}
 use Rattle.model.specs.Rings.{Controller}
 use Rattle.print.specs.Line.{lineOf}
@@ -37,11 +38,11 @@ AnyPieces = (l : Controller) (ps : List (List ℕ)) → fedPieces l Opening [] p
 -- a file without a fault: the lines of its records, and at a wrong one 27
 unfoldable pub SoundIsPrinted : Type 0
 SoundIsPrinted = (l : Controller) (file : List ℕ) → fault file ≡ 0
-    → (let p = lines (records file (sections file)) (drop (headLength file) file) l in transcript l file ≡ p .text ++ cond (p .wrong) (lineOf 0 27) [])
+    → (let p = lines (records file (sections file)) (drop (headLength file) file) l in transcript l file ≡ p .text ++ cond (p .wrong) (lineOf 0 number.wrongRecord) [])
 
 -- a mark that is wrong or cut short is told, and nothing else
 unfoldable pub MarkIsTold : Type 0
-MarkIsTold = (l : Controller) (file : List ℕ) → fault file ≡ 24 → transcript l file ≡ lineOf 0 24
+MarkIsTold = (l : Controller) (file : List ℕ) → fault file ≡ number.wrongMark → transcript l file ≡ lineOf 0 number.wrongMark
 
 -- a table that is whole and right and asks for 16 MiB at most: the length of the file may still be another
 unfoldable pub tableSound : List ℕ → Bool
@@ -51,14 +52,14 @@ tableSound file =
 
 -- 25, "at once" where the table is not so
 unfoldable pub TableIsTold : Type 0
-TableIsTold = (l : Controller) (file : List ℕ) → fault file ≡ 25 → tableSound file ≡ false → transcript l file ≡ lineOf 0 25
+TableIsTold = (l : Controller) (file : List ℕ) → fault file ≡ number.wrongTable → tableSound file ≡ false → transcript l file ≡ lineOf 0 number.wrongTable
 
 -- and else a wrong length, "after the records before": the lines of the whole records that are there, up to the table's total; where one of them is wrong, 27 and no 25
 unfoldable pub LengthIsTold : Type 0
-LengthIsTold = (l : Controller) (file : List ℕ) → fault file ≡ 25 → tableSound file ≡ true
+LengthIsTold = (l : Controller) (file : List ℕ) → fault file ≡ number.wrongTable → tableSound file ≡ true
     → (let bytes = drop (headLength file) file in
     let p = lines (within (records file (sections file)) bytes) bytes l in
-    (placeOf file (sections file) ≡ length file → ⊥) × (transcript l file ≡ p .text ++ lineOf 0 (cond (p .wrong) 27 25)))
+    (placeOf file (sections file) ≡ length file → ⊥) × (transcript l file ≡ p .text ++ lineOf 0 (cond (p .wrong) number.wrongRecord number.wrongTable)))
 
 -- the lines of some calls, made one after another
 abbrev pub spoken : List Call → Controller → List ℕ

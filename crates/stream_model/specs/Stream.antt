@@ -4,6 +4,7 @@ use mathlib.Core.Bool.{Bool, true, false, cond, _&&_}
 use mathlib.Core.List.{List, [], _++_}
 use lib.Dec.{eqb, ltb}
 use lib.ListN.{length, drop}
+use Rattle.number.specs.Names as number
 use Rattle.model.specs.declared.Call.{Call}
 use Rattle.model.specs.Engine.{step}
 use Rattle.model.specs.Rings.{Controller, rings}
@@ -56,8 +57,8 @@ abbrev pub recordsOf : Controller → ℕ → List ℕ → Stream
 recordsOf l to-come bytes =
     let n = within to-come bytes in
     let p = lines n bytes l in
-    cond (p .wrong) (over (p .left) bytes (p .text) 27)
-    (cond (eqb n to-come && ltb (12 * n) (length bytes)) (over (p .left) bytes (p .text) 25)
+    cond (p .wrong) (over (p .left) bytes (p .text) number.wrongRecord)
+    (cond (eqb n to-come && ltb (12 * n) (length bytes)) (over (p .left) bytes (p .text) number.wrongTable)
     (stream (p .left) (Records (to-come - n)) (12 * n) (p .text)))
 
 abbrev pub openedBy : Controller → List ℕ → Head → Stream
@@ -80,7 +81,7 @@ isOver Over = true
 -- with so many bytes not used: a mark cut short, and a table or records that are missing; 0 where nothing is
 unfoldable pub endNumber : Stage → ℕ → ℕ
 endNumber Opening n = cutHead n
-endNumber (Records k) n = cond (eqb k 0) 0 25
+endNumber (Records k) n = cond (eqb k 0) 0 number.wrongTable
 endNumber Over n = 0
 
 abbrev pub endText : Stage → ℕ → List ℕ

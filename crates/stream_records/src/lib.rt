@@ -22,10 +22,10 @@ pub fn feed_records(b: Bank, store: &mut [u32], due: usize, bytes: &[u8], out: &
     let len = bytes.len();
     let count = p.count;
     if p.wrong {
-        return stream_end::close(next, 27, len, out, count);
+        return stream_end::close(next, number::WRONG_RECORD, len, out, count);
     }
     if (n == due) & (12 * n < len) {
-        return stream_end::close(next, 25, len, out, count);
+        return stream_end::close(next, number::WRONG_TABLE, len, out, count);
     }
     Fed {
         bank: next,

@@ -44,7 +44,7 @@ fn replay_records(b: Bank, store: &mut [u32], records: &[u8], n: usize) -> Told
         let named = record::at(records, i);
         let Parsed::Named(call) = named else {
             return Told {
-                number: 27,
+                number: number::WRONG_RECORD,
                 count: i,
                 answer: a,
             };

@@ -17,7 +17,7 @@ pub fn look_up(file: &[u8], i: u32) -> u32
     if i < little_endian::two_at(file, 4) {
         return 0;
     }
-    26
+    number::NO_SUCH_SECTION
 }
 
 // The records of section i, as a part of the file; none where the number is not 0.
@@ -51,10 +51,10 @@ fn table_told(bytes: &[u8], n: u32) -> Head
     let t = trace_table::walk(bytes, n);
     let end = t.end;
     if !t.right {
-        return Head::Wrong(25);
+        return Head::Wrong(number::WRONG_TABLE);
     }
     if 0x100_0000 < end {
-        return Head::Wrong(25);
+        return Head::Wrong(number::WRONG_TABLE);
     }
     let len = 6 + 8 * (n as usize);
     Head::Right(len, (end as usize - len) / 12)
@@ -67,10 +67,10 @@ fn count_told(bytes: &[u8]) -> Head
 {
     let n = little_endian::two_at(bytes, 4);
     if n < 1 {
-        return Head::Wrong(25);
+        return Head::Wrong(number::WRONG_TABLE);
     }
     if 64 < n {
-        return Head::Wrong(25);
+        return Head::Wrong(number::WRONG_TABLE);
     }
     if bytes.len() < 6 + 8 * (n as usize) {
         return Head::More;
@@ -86,7 +86,7 @@ pub fn read_head(bytes: &[u8]) -> Head
         return Head::More;
     }
     if !trace_table::marked(bytes) {
-        return Head::Wrong(24);
+        return Head::Wrong(number::WRONG_MARK);
     }
     if bytes.len() < 6 {
         return Head::More;

@@ -4,6 +4,7 @@ use mathlib.Core.Bool.{Bool, true, false, cond, _&&_}
 use mathlib.Core.List.{List, [], _∷_}
 use lib.Dec.{eqb, ltb, leb}
 use lib.ListN.{length, take, drop}
+use Rattle.number.specs.Names as number
 use Rattle.little_endian.specs.Numbers.{twoAt, fourAt}
 
 -- "the four bytes `I3TR`"
@@ -54,11 +55,11 @@ tableRight file =
 
 -- "24 mark wrong or cut short, 25 contents wrong, or file above 16 MiB or too short or too long for them"
 unfoldable pub fault : List ℕ → ℕ
-fault file = cond (opens mark file) (cond (tableRight file) 0 25) 24
+fault file = cond (opens mark file) (cond (tableRight file) 0 number.wrongTable) number.wrongMark
 
 -- "26 no such section", "in that order"
 unfoldable pub lookNumber : List ℕ → ℕ → ℕ
-lookNumber file i = cond (eqb (fault file) 0) (cond (ltb i (sections file)) 0 26) (fault file)
+lookNumber file i = cond (eqb (fault file) 0) (cond (ltb i (sections file)) 0 number.noSuchSection) (fault file)
 
 -- "Asking for a section hands back that stretch of the caller's own bytes, uncopied, empty if refused.": where it begins, and its bytes
 unfoldable pub sectionStart : List ℕ → ℕ → ℕ

@@ -4,6 +4,7 @@ use mathlib.Core.Bool.{cond, _&&_}
 use mathlib.Core.List.{List}
 use lib.Dec.{ltb, leb}
 use lib.ListN.{length}
+use Rattle.number.specs.Names as number
 use Rattle.trace_model.specs.declared.Head.{Head}
 use Rattle.trace_model.specs.declared.Head.the-variants.{More, Wrong, Right}
 use Rattle.trace_model.specs.Format.{mark, opens, sections, records, placeOf, startsRight}
@@ -16,19 +17,19 @@ headLength bytes = 6 + 8 * sections bytes
 abbrev pub tableTold : List ℕ → Head
 tableTold bytes =
     let n = sections bytes in
-    cond (startsRight bytes n && leb (placeOf bytes n) 0x1000000) (Right (headLength bytes) (records bytes n)) (Wrong 25)
+    cond (startsRight bytes n && leb (placeOf bytes n) 0x1000000) (Right (headLength bytes) (records bytes n)) (Wrong number.wrongTable)
 
 abbrev pub countTold : List ℕ → Head
 countTold bytes =
     let n = sections bytes in
-    cond (leb 1 n && leb n 64) (cond (ltb (length bytes) (headLength bytes)) More (tableTold bytes)) (Wrong 25)
+    cond (leb 1 n && leb n 64) (cond (ltb (length bytes) (headLength bytes)) More (tableTold bytes)) (Wrong number.wrongTable)
 
 -- "24 mark wrong"
 abbrev pub headOf : List ℕ → Head
 headOf bytes =
     cond (ltb (length bytes) 4) More
-    (cond (opens mark bytes) (cond (ltb (length bytes) 6) More (countTold bytes)) (Wrong 24))
+    (cond (opens mark bytes) (cond (ltb (length bytes) 6) More (countTold bytes)) (Wrong number.wrongMark))
 
 -- a file that ends before its mark is whole, and one that ends in its table
 abbrev pub cutHead : ℕ → ℕ
-cutHead n = cond (ltb n 4) 24 25
+cutHead n = cond (ltb n 4) number.wrongMark number.wrongTable

@@ -86,10 +86,10 @@ pub fn fault(file: &[u8]) -> u32
     ensures { λ r. ⌜ r ≡ fault (now (file .entry)) ⌝ }
 {
     if !marked(file) {
-        return 24;
+        return number::WRONG_MARK;
     }
     if !table_right(file) {
-        return 25;
+        return number::WRONG_TABLE;
     }
     0
 }

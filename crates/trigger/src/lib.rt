@@ -38,10 +38,10 @@ fn trigger_number(st: State, commands: &[u32; 16], len: usize) -> u32
     let idle = phases::is_idle(p);
     let span = burst_commands::span_of(st.regs);
     let runs = burst_commands::all_carried(commands, span);
-    let n = bank::select(is_lacking(st.regs, commands, len), 13, 0);
-    let n = bank::select(!runs, 29, n);
-    let n = bank::select(span == 0, 28, n);
-    let n = bank::select(!burst_commands::is_offload(st.regs), 8, n);
+    let n = bank::select(is_lacking(st.regs, commands, len), number::NO_ROOM, 0);
+    let n = bank::select(!runs, number::NOT_CARRIED, n);
+    let n = bank::select(span == 0, number::BURST_HAS_NO_COMMANDS, n);
+    let n = bank::select(!burst_commands::is_offload(st.regs), number::NOT_IN_THIS_MODE, n);
     effect::while_idle(st.control.held, idle, n)
 }
 

@@ -56,7 +56,7 @@ pub fn write_config(st: State, x: u32) -> Effect
 fn burst_number(c: Control) -> u32
     ensures { λ n. ⌜ n ≡ weigh (bursting c) 6 ⌝ }
 {
-    bank::select(burst_commands::is_bursting(c), 6, 0)
+    bank::select(burst_commands::is_bursting(c), number::TRANSFER_OPEN, 0)
 }
 
 // OPS after a write, where it comes; else as it was.

@@ -71,7 +71,11 @@ pub fn is_open(w: u32, p: Phase) -> bool
     phases::is_private(k)
         & (header == w / 0x200000 % 2)
         & (t.length.0 == w / 256 % 4096)
-        & bank::choose(bank::low_bit(w), phases::is_reading(p), phases::is_writing(p))
+        & bank::choose(
+            bank::low_bit(w),
+            phases::is_reading(p),
+            phases::is_writing(p),
+        )
 }
 
 // The bytes that the part word of a burst's transfer holds.

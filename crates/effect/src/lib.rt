@@ -57,14 +57,22 @@ pub struct Effect {
 pub fn while_open(held: bool, idle: bool, n: u32) -> u32
     ensures { λ r. ⌜ r ≡ cond held number.heldInReset (cond idle number.noTransfer n) ⌝ }
 {
-    bank::select(held, number::HELD_IN_RESET, bank::select(idle, number::NO_TRANSFER, n))
+    bank::select(
+        held,
+        number::HELD_IN_RESET,
+        bank::select(idle, number::NO_TRANSFER, n),
+    )
 }
 
 // The number of an event that begins where none is open: 5 in reset, 6 where one is, then `n`.
 pub fn while_idle(held: bool, idle: bool, n: u32) -> u32
     ensures { λ r. ⌜ r ≡ cond held number.heldInReset (cond (not idle) number.transferOpen n) ⌝ }
 {
-    bank::select(held, number::HELD_IN_RESET, bank::select(!idle, number::TRANSFER_OPEN, n))
+    bank::select(
+        held,
+        number::HELD_IN_RESET,
+        bank::select(!idle, number::TRANSFER_OPEN, n),
+    )
 }
 
 // ── Operations ─────────────────────────────────────────────────────────────────────────────────────────────────

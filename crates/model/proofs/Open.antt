@@ -9,6 +9,7 @@ use lib.ListN.{getD, set}
 use lib.Count.{ones}
 use borrow.Author.Tests.{leb-true, leb-false, eqb-true, eqb-false, not-false, not-true, lt-ltb, le-leb, eq-eqb, ne-eqb}
 use Rattle.bank.specs.declared.Regs.{Regs}
+use Rattle.bank.specs.declared.State.{State}
 use Rattle.bank.specs.declared.Control.{Control}
 use Rattle.bank.specs.declared.Transfer.{Transfer}
 use Rattle.bank.specs.declared.Phase.{Phase}
@@ -105,6 +106,15 @@ pub in-burst : (c : Control) (g : Regs) (p : Phase) (ws : List ℕ) → bursting
 in-burst c g p ws e h =
     let w = getD ws (place c) 0 in
     staged (bit 0 w) p (opens-parts w p (burst-parts c g p ws (burst-of c g p ws e h) .opens) .stage)
+
+-- where a burst stands: at one of fifteen commands at most, counted from 1
+pub burst-place : (st : State) (ws : List ℕ) → bursting (st .control) ≡ true → openOk (st .control) (st .regs) (st .phase) ws ≡ true → (st .control .burst ≤ 15) × (1 ≤ st .control .burst)
+burst-place st ws e h =
+    let n = st .control .burst in
+    let l = leb-true n (span (st .regs)) (burst-parts (st .control) (st .regs) (st .phase) ws (burst-of (st .control) (st .regs) (st .phase) ws e h) .stands) in
+    let m : st .regs .ops / 2 % 16 < 16 = omega arith in
+    let d = eqb-false n 0 (not-true (eqb n 0) e) in
+    (omega arith, omega arith)
 
 no-burst : (c : Control) (g : Regs) (p : Phase) (ws : List ℕ) → ((idle p ≡ false) × (assigning p ≡ false) → ⊥) → openOk c g p ws ≡ true → bursting c ≡ false
 no-burst c g p ws n h = go (bursting c) refl

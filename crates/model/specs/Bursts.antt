@@ -93,9 +93,13 @@ burstFinish s code =
     ∣ does (unchanged s withControl standing (cond (lastly s) 0 (n + 1)) (s .control) withPhase cond (lastly s) Idle (opening s n) withTables delivered s)
 
 -- ── Any call ──────────────────────────────────────────────────────────────────────────────────────────────────
--- an event: outside a burst as 01 says it, inside by the burst
+-- `burst.output`: the test of the lent output, ahead of an event's own
+abbrev pub outputFirst : View → Decision → Decision
+outputFirst s d = short s ⇒ number.noRoom ∣ d
+
+-- an event: outside a burst as a direct transfer has it, inside by the burst
 abbrev pub within : View → Decision → Decision → Decision
-within s inside outside = short s ⇒ number.noRoom ∣ cond (bursting (s .control)) inside outside
+within s inside outside = outputFirst s (cond (bursting (s .control)) inside outside)
 
 -- 18: the code of a finish or the address of an interrupt request is out of its range
 abbrev pub misfit : Call → Bool
@@ -115,11 +119,11 @@ misfit Trigger = false
 abbrev pub decide : View → Call → Decision
 decide s (Read o) = read (row (registerAt o)) s
 decide s (Write o v) = write (row (registerAt o)) s v
-decide s Start = short s ⇒ number.noRoom ∣ start s
+decide s Start = outputFirst s (start s)
 decide s Send = within s (burstSend s) (send s)
 decide s (Receive byte) = within s (burstReceive s byte) (receive s byte)
 decide s (Finish code) = misfit (Finish code) ⇒ number.outOfRange ∣ within s (burstFinish s code) (finish s code)
-decide s (Interrupt a byte) = misfit (Interrupt a byte) ⇒ number.outOfRange ∣ short s ⇒ number.noRoom ∣ interrupt s a byte
-decide s (Request v w) = short s ⇒ number.noRoom ∣ request s v w
-decide s Take = short s ⇒ number.noRoom ∣ takeAddress s
-decide s Trigger = short s ⇒ number.noRoom ∣ trigger s
+decide s (Interrupt a byte) = misfit (Interrupt a byte) ⇒ number.outOfRange ∣ outputFirst s (interrupt s a byte)
+decide s (Request v w) = outputFirst s (request s v w)
+decide s Take = outputFirst s (takeAddress s)
+decide s Trigger = outputFirst s (trigger s)

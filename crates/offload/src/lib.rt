@@ -23,7 +23,11 @@ pub fn bar(st: State, lacks: bool, n: u32) -> Effect
 {
     effect::refuse(
         st,
-        bank::select(lacks, number::NO_ROOM, bank::select(st.control.held, number::HELD_IN_RESET, n)),
+        bank::select(
+            lacks,
+            number::NO_ROOM,
+            bank::select(st.control.held, number::HELD_IN_RESET, n),
+        ),
     )
 }
 
@@ -44,9 +48,9 @@ pub fn event(
         Call::Read(_) => effect::refuse(st, number::NO_ROOM),
         Call::Write(_, _) => effect::refuse(st, number::NO_ROOM),
         Call::Start => bar(st, lacks, 6),
-        Call::Send => burst::send(st, commands, payloads, len),
-        Call::Receive(byte) => burst::receive(st, commands, len, byte),
-        Call::Finish(code) => burst::finish(st, flags, commands, len, code),
+        Call::Send => burst_bytes::send(st, commands, payloads, len),
+        Call::Receive(byte) => burst_bytes::receive(st, commands, len, byte),
+        Call::Finish(code) => burst_finish::finish(st, flags, commands, len, code),
         Call::Interrupt(_, _) => bar(st, lacks, 6),
         Call::Request(_, _) => bar(st, lacks, 10),
         Call::Take => bar(st, lacks, 10),

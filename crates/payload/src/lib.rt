@@ -19,7 +19,11 @@ fn send_number(st: State) -> u32
     let p = st.phase;
     let t = phases::transfer_of(p);
     let starved = (t.moved.0 % 4 == 0) & (st.levels.sdo.0 == 0);
-    payload_bytes::byte_number(st, phases::is_writing(p), bank::select(starved, number::SDO_EMPTY, 0))
+    payload_bytes::byte_number(
+        st,
+        phases::is_writing(p),
+        bank::select(starved, number::SDO_EMPTY, 0),
+    )
 }
 
 // A byte sent: the first of a new SDO word, or the next of the part word. `word` is the first of SDO.
@@ -48,7 +52,11 @@ fn receive_number(st: State) -> u32
     let p = st.phase;
     let t = phases::transfer_of(p);
     let full = (t.moved.0 % 4 == 3) & (st.caps.sdi.0 <= st.levels.sdi.0);
-    payload_bytes::byte_number(st, phases::is_reading(p), bank::select(full, number::NO_ROOM, 0))
+    payload_bytes::byte_number(
+        st,
+        phases::is_reading(p),
+        bank::select(full, number::NO_ROOM, 0),
+    )
 }
 
 // A byte received: the fourth of a word pushes the word to SDI.

@@ -45,10 +45,7 @@ pub fn read(
         Register::SdiFifo => read_rows::read_sdi(st, word),
         Register::IbiFifo => read_rows::read_ibi(st, word),
         Register::FifoStatus => show(st, read_rows::status_word(l.cmdr.0, l.ibi.0, l.sdi.0)),
-        Register::Ops => show(
-            st,
-            read_rows::ops_word(phases::is_idle(p), g.ops),
-        ),
+        Register::Ops => show(st, read_rows::ops_word(phases::is_idle(p), g.ops)),
         Register::IbiConfig => show(st, 0),
         Register::DevChar => show(
             st,

@@ -65,7 +65,11 @@ fn end_number(stage: Stage, held: usize) -> u32
     ensures { λ r. ⌜ r ≡ endNumber stage held ⌝ }
 {
     match stage {
-        Stage::Opening => if held < 4 { number::WRONG_MARK } else { number::WRONG_TABLE },
+        Stage::Opening => if held < 4 {
+            number::WRONG_MARK
+        } else {
+            number::WRONG_TABLE
+        },
         Stage::Records(due) => if due == 0 { 0 } else { number::WRONG_TABLE },
         Stage::Over => 0,
     }

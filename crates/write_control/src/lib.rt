@@ -69,7 +69,11 @@ pub fn write_enable(st: State, x: u32) -> Effect
 fn push_number(held: bool, cap: u32, level: u32) -> u32
     ensures { λ n. ⌜ n ≡ pushNumber held cap level ⌝ }
 {
-    bank::select(held, number::HELD_IN_RESET, bank::select(cap <= level, number::DROPPED_FULL, 0))
+    bank::select(
+        held,
+        number::HELD_IN_RESET,
+        bank::select(cap <= level, number::DROPPED_FULL, 0),
+    )
 }
 
 // A push: made where its number is 0, else nothing changes. It has one way out: a return for the refusal costs time.

@@ -1,19 +1,18 @@
--- `burst::receive` meets its contract.
+-- `burst_bytes::receive` meets its contract.
 use Prim.Native.Nat.{ℕ}
 use mathlib.Core.Path.{sym, _∙_}
 use mathlib.Core.List.{[]}
 use lib.ListN.{replicate, length-replicate}
 use borrow.Author.Tests.{leb-false}
 use Rattle.model.specs.View.{tables}
-use Rattle.model.specs.Decision.{_⇒_∣_}
-use Rattle.model.specs.Bursts.{short, burstReceive}
+use Rattle.model.specs.Bursts.{outputFirst, burstReceive}
 use Rattle.effect.specs.Seen.{seen}
 use Rattle.effect.proofs.Laws.{refused-as, noFronts}
 use Rattle.trigger.proofs.Within.{lent}
-use Rattle.burst.proofs.Laws.{below-four, gathered-part, receives, received}
+use Rattle.burst_bytes.proofs.Laws.{below-four, gathered-part, receives, received}
 use borrow.Author.Needs.{needs}
-use Rattle.burst.proofs.receive.Statement.{statement}
-use Rattle.burst.proofs.receive.Tie as tie
+use Rattle.burst_bytes.proofs.receive.Statement.{statement}
+use Rattle.burst_bytes.proofs.receive.Tie as tie
 
 receive-number-requires : tie.Need-receive-number-requires
 receive-number-requires c κs = search needs
@@ -24,7 +23,7 @@ refuse-requires c κs = search needs
 returns : tie.Need-returns
 returns c = λ b p o f h. let a = c .before .before .before in
     let t = tables b (a .args .commands .now) p o in
-    c .refuse .ensures t f ∙ refused-as (λ v. short v ⇒ 13 ∣ burstReceive v (a .args .byte)) (seen (a .args .st) t f) _ (c .before .if1 .taken) (c .before .before .receive-number .ensures b p o f (a .args .byte) h)
+    c .refuse .ensures t f ∙ refused-as (λ v. outputFirst v (burstReceive v (a .args .byte))) (seen (a .args .st) t f) _ (c .before .if1 .taken) (c .before .before .receive-number .ensures b p o f (a .args .byte) h)
 
 transfer-of-requires : tie.Need-transfer-of-requires
 transfer-of-requires c κs = search needs

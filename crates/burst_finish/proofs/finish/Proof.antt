@@ -1,17 +1,17 @@
--- `burst::finish` meets its contract.
+-- `burst_finish::finish` meets its contract.
 use native.Mathlib.Omega.{arith}
 use mathlib.Core.Path.{refl, sym, _∙_}
 use Rattle.bank.specs.Phases.{reading, transfer}
 use Rattle.bank.specs.Bursts.{readsIn, place}
 use Rattle.model.specs.View.{tables}
-use Rattle.model.specs.Decision.{_⇒_∣_}
-use Rattle.model.specs.Bursts.{short, burstFinish}
+use Rattle.model.specs.Bursts.{outputFirst, burstFinish}
 use Rattle.effect.specs.Seen.{seen}
 use Rattle.effect.proofs.Laws.{refused-as, served-as}
-use Rattle.burst.proofs.Laws.{at-most-fifteen, output-if}
+use Rattle.model.proofs.Open.{burst-place}
+use Rattle.burst_finish.proofs.Output.{output-if}
 use borrow.Author.Needs.{needs}
-use Rattle.burst.proofs.finish.Statement.{statement}
-use Rattle.burst.proofs.finish.Tie as tie
+use Rattle.burst_finish.proofs.finish.Statement.{statement}
+use Rattle.burst_finish.proofs.finish.Tie as tie
 
 finish-number-requires : tie.Need-finish-number-requires
 finish-number-requires c κs = search needs
@@ -23,7 +23,7 @@ returns : tie.Need-returns
 returns c = λ p o f h. let a = c .before .before .before in
     let b = a .args .flags .now in
     let t = tables b (a .args .commands .now) p o in
-    c .refuse .ensures t f ∙ refused-as (λ v. short v ⇒ 13 ∣ burstFinish v (a .args .code)) (seen (a .args .st) t f) _ (c .before .if1 .taken) (c .before .before .finish-number .ensures b p o f h)
+    c .refuse .ensures t f ∙ refused-as (λ v. outputFirst v (burstFinish v (a .args .code))) (seen (a .args .st) t f) _ (c .before .if1 .taken) (c .before .before .finish-number .ensures b p o f h)
 
 transfer-of-requires : tie.Need-transfer-of-requires
 transfer-of-requires c κs = search needs
@@ -33,22 +33,22 @@ is-reading-requires c κs = search needs
 
 cast-k : tie.Need-cast-k
 cast-k c = let a = c .before .before .before .before .before in
-    let b = at-most-fifteen (a .args .st) (a .args .commands .now) (a .pre .0) (a .pre .1) in
+    let b = burst-place (a .args .st) (a .args .commands .now) (a .pre .0) (a .pre .1) in
     omega (arith, b .0)
 
 sub-passed : tie.Need-sub-passed
 sub-passed c = let a = c .before .before .before .before .before in
-    let b = at-most-fifteen (a .args .st) (a .args .commands .now) (a .pre .0) (a .pre .1) in
+    let b = burst-place (a .args .st) (a .args .commands .now) (a .pre .0) (a .pre .1) in
     omega (arith, b .1)
 
 reads-in-requires : tie.Need-reads-in-requires
 reads-in-requires c κs = let a = c .before .before .before .before .before in
-    let b = at-most-fifteen (a .args .st) (a .args .commands .now) (a .pre .0) (a .pre .1) in
+    let b = burst-place (a .args .st) (a .args .commands .now) (a .pre .0) (a .pre .1) in
     omega (arith, b .0)
 
 cast-place : tie.Need-cast-place
 cast-place c = let a = c .before .before .before .before .before .before in
-    let b = at-most-fifteen (a .args .st) (a .args .commands .now) (a .pre .0) (a .pre .1) in
+    let b = burst-place (a .args .st) (a .args .commands .now) (a .pre .0) (a .pre .1) in
     let r = c .reads-in .ensures .1 in
     omega (arith, b .0, r)
 
@@ -57,19 +57,19 @@ span-of-requires c κs = search needs
 
 mul-w : tie.Need-mul-w
 mul-w c = let a = c .before .before .before .before .before .before .before in
-    let b = at-most-fifteen (a .args .st) (a .args .commands .now) (a .pre .0) (a .pre .1) in
+    let b = burst-place (a .args .st) (a .args .commands .now) (a .pre .0) (a .pre .1) in
     omega (arith, b .0)
 
 element-copy-out-w : tie.Need-element-copy-out-w
 element-copy-out-w c = let a = c .before .before .before .before .before .before .before in
-    let b = at-most-fifteen (a .args .st) (a .args .commands .now) (a .pre .0) (a .pre .1) in
+    let b = burst-place (a .args .st) (a .args .commands .now) (a .pre .0) (a .pre .1) in
     omega (arith, b .0)
 
 next-phase-requires : tie.Need-next-phase-requires
 next-phase-requires c κs = search needs
 
 after-requires : tie.Need-after-requires
-after-requires c κs = let a = c .before .before .before .before .before .before .before .before .before .before in at-most-fifteen (a .args .st) (a .args .commands .now) (a .pre .0) (a .pre .1) .0
+after-requires c κs = let a = c .before .before .before .before .before .before .before .before .before .before in burst-place (a .args .st) (a .args .commands .now) (a .pre .0) (a .pre .1) .0
 
 stand-requires : tie.Need-stand-requires
 stand-requires c κs = search needs
@@ -92,7 +92,7 @@ returns-2 c = λ p o f h. let r = c .before .before .before .before .before .bef
     let ws = a .args .commands .now in
     let t = tables (a .args .flags .now) ws p o in
     rw (c .done-with .ensures t, c .before .table-if .ensures t, c .before .before .none .ensures, c .before .before .before .stand .ensures, c .before .before .before .before .after .ensures, c .before .before .before .before .before .before .next-phase .ensures, c .before .before .before .before .before .before .before .before .span-of .ensures .0, r .reads-in .ensures .0, r .before .before .is-reading .ensures, r .before .before .before .transfer-of .ensures, output-if (reading (st .phase)) (readsIn (place (st .control)) ws) (transfer (st .phase) .part) t)
-    (served-as (λ v. short v ⇒ 13 ∣ burstFinish v (a .args .code)) (seen st t f) refl (sym (i .before .finish-number .ensures (a .args .flags .now) p o f h) ∙ i .if1 .left))
+    (served-as (λ v. outputFirst v (burstFinish v (a .args .code))) (seen st t f) refl (sym (i .before .finish-number .ensures (a .args .flags .now) p o f h) ∙ i .if1 .left))
 
 pub finish-spec : {M : Type 1} → statement M
 finish-spec =

@@ -1,19 +1,19 @@
--- `burst::send` meets its contract.
+-- `burst_bytes::send` meets its contract.
 use Prim.Native.Nat.{ℕ}
 use mathlib.Core.Path.{sym, _∙_}
 use mathlib.Core.List.{[]}
 use lib.ListN.{replicate, length-replicate}
 use borrow.Author.Tests.{leb-false}
 use Rattle.model.specs.View.{tables}
-use Rattle.model.specs.Decision.{_⇒_∣_}
-use Rattle.model.specs.Bursts.{short, burstSend}
+use Rattle.model.specs.Bursts.{outputFirst, burstSend}
 use Rattle.effect.specs.Seen.{seen}
 use Rattle.effect.proofs.Laws.{refused-as, noFronts}
 use Rattle.trigger.proofs.Within.{lent}
-use Rattle.burst.proofs.Laws.{at-most-fifteen, below-four, sends, sent}
+use Rattle.model.proofs.Open.{burst-place}
+use Rattle.burst_bytes.proofs.Laws.{below-four, sends, sent}
 use borrow.Author.Needs.{needs}
-use Rattle.burst.proofs.send.Statement.{statement}
-use Rattle.burst.proofs.send.Tie as tie
+use Rattle.burst_bytes.proofs.send.Statement.{statement}
+use Rattle.burst_bytes.proofs.send.Tie as tie
 
 send-number-requires : tie.Need-send-number-requires
 send-number-requires c κs = search needs
@@ -25,13 +25,13 @@ returns : tie.Need-returns
 returns c = λ b o f h. let a = c .before .before .before in
     let p = a .args .payloads .now in
     let t = tables b (a .args .commands .now) p o in
-    c .refuse .ensures t f ∙ refused-as (λ v. short v ⇒ 13 ∣ burstSend v) (seen (a .args .st) t f) _ (c .before .if1 .taken) (c .before .before .send-number .ensures b p o f h)
+    c .refuse .ensures t f ∙ refused-as (λ v. outputFirst v (burstSend v)) (seen (a .args .st) t f) _ (c .before .if1 .taken) (c .before .before .send-number .ensures b p o f h)
 
 transfer-of-requires : tie.Need-transfer-of-requires
 transfer-of-requires c κs = search needs
 
 data-word-requires : tie.Need-data-word-requires
-data-word-requires c κs = let a = c .before .before .before in at-most-fifteen (a .args .st) (a .args .commands .now) (a .pre .0) (a .pre .1) .0
+data-word-requires c κs = let a = c .before .before .before in burst-place (a .args .st) (a .args .commands .now) (a .pre .0) (a .pre .1) .0
 
 weight-requires : tie.Need-weight-requires
 weight-requires c κs = search needs

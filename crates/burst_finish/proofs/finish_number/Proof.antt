@@ -1,9 +1,9 @@
--- `burst::finish_number` meets its contract.
+-- `burst_finish::finish_number` meets its contract.
 use Rattle.model.specs.Bursts.{burstFinish}
 use Rattle.trigger.proofs.Within.{short-is}
 use borrow.Author.Needs.{needs}
-use Rattle.burst.proofs.finish_number.Statement.{statement}
-use Rattle.burst.proofs.finish_number.Tie as tie
+use Rattle.burst_finish.proofs.finish_number.Statement.{statement}
+use Rattle.burst_finish.proofs.finish_number.Tie as tie
 
 is-idle-requires : tie.Need-is-idle-requires
 is-idle-requires c κs = search needs

@@ -17,24 +17,16 @@ use Rattle.bank.proofs.Bools.{three}
 use Rattle.model.specs.View.{Tables, tables, View}
 use Rattle.model.specs.Decision.{Effect, unchanged, _withValue_, _withPhase_, _⇒_∣_}
 use Rattle.model.specs.Calls.{advanced}
-use Rattle.model.specs.Bursts.{short, dataWord, burstSend, burstReceive}
+use Rattle.model.specs.Bursts.{outputFirst, dataWord, burstSend, burstReceive}
 use Rattle.model.proofs.Open.{BurstOk, burst-of, burst-parts, at-most-four}
 use Rattle.effect.specs.declared.Table.the-variants.{Output}
 use Rattle.effect.specs.Effects.{number, tablesBy, verdict}
 use Rattle.effect.proofs.Laws.{cleared, served-as}
 
--- ── The place of a burst ──────────────────────────────────────────────────────────────────────────────────────
+-- ── Bytes of a burst ─────────────────────────────────────────────────────────────────────────────────────────
 module _ (st : State) (ws : List ℕ) (e : bursting (st .control) ≡ true) (h : openOk (st .control) (st .regs) (st .phase) ws ≡ true) where
   parts : BurstOk (st .control) (st .regs) (st .phase) ws
   parts = burst-parts (st .control) (st .regs) (st .phase) ws (burst-of (st .control) (st .regs) (st .phase) ws e h)
-
-  pub at-most-fifteen : (st .control .burst ≤ 15) × (1 ≤ st .control .burst)
-  at-most-fifteen =
-      let n = st .control .burst in
-      let l = leb-true n (span (st .regs)) (parts .stands) in
-      let m : st .regs .ops / 2 % 16 < 16 = omega arith in
-      let d = eqb-false n 0 (not-true (eqb n 0) e) in
-      (omega arith, omega arith)
 
   module _ (l : leb (transfer (st .phase) .length .0) (transfer (st .phase) .moved .0) ≡ false) where
     pub below-four : transfer (st .phase) .moved .0 < 4
@@ -52,14 +44,14 @@ module _ (st : State) (ws : List ℕ) (e : bursting (st .control) ≡ true) (h :
         rw (mod-eq-of-lt below-four) (eqb-true (t .part % 2 ^ (32 - 8 * t .moved .0)) 0 (rw r at z .2))
 
 -- ── Tests ─────────────────────────────────────────────────────────────────────────────────────────────────────
-pub sends : (s : View) → number (short s ⇒ 13 ∣ burstSend s) ≡ 0 → leb (transfer (s .phase) .length .0) (transfer (s .phase) .moved .0) ≡ false
+pub sends : (s : View) → number (outputFirst s (burstSend s)) ≡ 0 → leb (transfer (s .phase) .length .0) (transfer (s .phase) .moved .0) ≡ false
 unfolding burstSend
-sends s e = cleared (short s ⇒ 13 ∣ burstSend s) refl e .1 .1 .1 .1 .1 .0
+sends s e = cleared (outputFirst s (burstSend s)) refl e .1 .1 .1 .1 .1 .0
 
-pub receives : (s : View) (byte : ℕ) → number (short s ⇒ 13 ∣ burstReceive s byte) ≡ 0 → (reading (s .phase) ≡ true) × (leb (transfer (s .phase) .length .0) (transfer (s .phase) .moved .0) ≡ false)
+pub receives : (s : View) (byte : ℕ) → number (outputFirst s (burstReceive s byte)) ≡ 0 → (reading (s .phase) ≡ true) × (leb (transfer (s .phase) .length .0) (transfer (s .phase) .moved .0) ≡ false)
 unfolding burstReceive
 receives s byte e =
-    let p = cleared (short s ⇒ 13 ∣ burstReceive s byte) refl e in
+    let p = cleared (outputFirst s (burstReceive s byte)) refl e in
     (not-false (reading (s .phase)) (p .1 .1 .1 .1 .0), p .1 .1 .1 .1 .1 .0)
 
 -- ── What the events do: fewer than four bytes have moved ──────────────────────────────────────────────────────
@@ -68,19 +60,13 @@ module _ (s : View) where
   abbrev sending : ℕ → Effect
   sending m = unchanged s withValue dataWord s / 2 ^ (24 - 8 * m) % 256 withPhase Writing (advanced (transfer (s .phase)) 0)
 
-  pub sent : transfer (s .phase) .moved .0 < 4 → number (short s ⇒ 13 ∣ burstSend s) ≡ 0 → sending (transfer (s .phase) .moved .0 % 4) ≡ verdict (λ v. short v ⇒ 13 ∣ burstSend v) s
+  pub sent : transfer (s .phase) .moved .0 < 4 → number (outputFirst s (burstSend s)) ≡ 0 → sending (transfer (s .phase) .moved .0 % 4) ≡ verdict (λ v. outputFirst v (burstSend v)) s
   unfolding burstSend
-  sent l e = ap sending (mod-eq-of-lt l) ∙ served-as (λ v. short v ⇒ 13 ∣ burstSend v) s refl e
+  sent l e = ap sending (mod-eq-of-lt l) ∙ served-as (λ v. outputFirst v (burstSend v)) s refl e
 
   abbrev receiving : ℕ → ℕ → Effect
   receiving byte m = let t = transfer (s .phase) in unchanged s withPhase Reading (advanced t (t .part + byte * 2 ^ (24 - 8 * m)))
 
-  pub received : (byte : ℕ) → transfer (s .phase) .moved .0 < 4 → number (short s ⇒ 13 ∣ burstReceive s byte) ≡ 0 → receiving byte (transfer (s .phase) .moved .0 % 4) ≡ verdict (λ v. short v ⇒ 13 ∣ burstReceive v byte) s
+  pub received : (byte : ℕ) → transfer (s .phase) .moved .0 < 4 → number (outputFirst s (burstReceive s byte)) ≡ 0 → receiving byte (transfer (s .phase) .moved .0 % 4) ≡ verdict (λ v. outputFirst v (burstReceive v byte)) s
   unfolding burstReceive
-  received byte l e = ap (receiving byte) (mod-eq-of-lt l) ∙ served-as (λ v. short v ⇒ 13 ∣ burstReceive v byte) s refl e
-
--- a word of the output, where it comes
-pub output-if : (b : Bool) (i w : ℕ) (t : Tables) → cond b (tablesBy (Output i w) t) t ≡ tables (t .flags) (t .commands) (t .payloads) (cond b (set (t .output) i w) (t .output))
-unfolding tablesBy
-output-if true i w t = refl
-output-if false i w t = refl
+  received byte l e = ap (receiving byte) (mod-eq-of-lt l) ∙ served-as (λ v. outputFirst v (burstReceive v byte)) s refl e

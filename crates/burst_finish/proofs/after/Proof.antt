@@ -1,7 +1,7 @@
--- `burst::after` meets its contract.
+-- `burst_finish::after` meets its contract.
 use borrow.Author.Needs.{needs}
-use Rattle.burst.proofs.after.Statement.{statement}
-use Rattle.burst.proofs.after.Tie as tie
+use Rattle.burst_finish.proofs.after.Statement.{statement}
+use Rattle.burst_finish.proofs.after.Tie as tie
 
 add-result : tie.Need-add-result
 add-result c = search needs

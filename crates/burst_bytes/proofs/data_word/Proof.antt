@@ -1,12 +1,12 @@
--- `burst::data_word` meets its contract.
+-- `burst_bytes::data_word` meets its contract.
 use Prim.Native.Nat.{ℕ, _-_}
 use mathlib.Core.Path.{_≡_}
 use mathlib.Core.List.{List}
 use lib.ListN.{getD}
 use Rattle.bank.specs.Bursts.{readsIn, writesIn}
 use borrow.Author.Needs.{needs}
-use Rattle.burst.proofs.data_word.Statement.{statement}
-use Rattle.burst.proofs.data_word.Tie as tie
+use Rattle.burst_bytes.proofs.data_word.Statement.{statement}
+use Rattle.burst_bytes.proofs.data_word.Tie as tie
 
 -- where none is open the first word stands for none
 no-place : (n : ℕ) (ws p : List ℕ) → n ≡ 0 → getD p 0 0 ≡ getD p (writesIn (n - 1) ws) 0

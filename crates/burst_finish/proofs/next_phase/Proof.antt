@@ -1,7 +1,7 @@
--- `burst::next_phase` meets its contract.
+-- `burst_finish::next_phase` meets its contract.
 use borrow.Author.Needs.{needs}
-use Rattle.burst.proofs.next_phase.Statement.{statement}
-use Rattle.burst.proofs.next_phase.Tie as tie
+use Rattle.burst_finish.proofs.next_phase.Statement.{statement}
+use Rattle.burst_finish.proofs.next_phase.Tie as tie
 
 returns : tie.Need-returns
 returns c = search needs

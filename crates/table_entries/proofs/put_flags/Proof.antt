@@ -1,9 +1,9 @@
--- `settle::put_flags` meets its contract.
+-- `table_entries::put_flags` meets its contract.
 use mathlib.Core.Path.{sym}
-use Rattle.settle.proofs.Laws.{set-past}
+use Rattle.table_entries.proofs.Laws.{set-past}
 use borrow.Author.Needs.{needs}
-use Rattle.settle.proofs.put_flags.Statement.{statement}
-use Rattle.settle.proofs.put_flags.Tie as tie
+use Rattle.table_entries.proofs.put_flags.Statement.{statement}
+use Rattle.table_entries.proofs.put_flags.Tie as tie
 
 slice-write-flags : tie.Need-slice-write-flags
 slice-write-flags c = search needs

@@ -1,12 +1,12 @@
--- `settle::push_two` meets its contract.
+-- `ring_moves::push_two` meets its contract.
 use Rattle.model.specs.Rings.{onRing, onStore}
 use lib.ListN.{length, length-set}
 use mathlib.Core.Path.{_≡_, ap, _∙_}
 use native.Mathlib.Omega.{arith}
 use Rattle.ring.proofs.Laws.{valid-push}
 use borrow.Author.Needs.{needs}
-use Rattle.settle.proofs.push_two.Statement.{statement}
-use Rattle.settle.proofs.push_two.Tie as tie
+use Rattle.ring_moves.proofs.push_two.Statement.{statement}
+use Rattle.ring_moves.proofs.push_two.Tie as tie
 
 push-requires : tie.Need-push-requires
 push-requires c κs = search needs

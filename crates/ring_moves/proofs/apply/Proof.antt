@@ -1,13 +1,13 @@
--- `settle::apply` meets its contract.
+-- `ring_moves::apply` meets its contract.
 use Rattle.model.proofs.Rings.{length-store}
 use lib.ListN.{length, length-set}
 use mathlib.Core.Path.{refl, ap, _∙_}
 use Rattle.model.specs.Rings.{onRing, onStore}
 use native.Mathlib.Omega.{arith}
-use Rattle.settle.proofs.Laws.{told}
+use Rattle.ring_moves.proofs.Laws.{told}
 use borrow.Author.Needs.{needs}
-use Rattle.settle.proofs.apply.Statement.{statement}
-use Rattle.settle.proofs.apply.Tie as tie
+use Rattle.ring_moves.proofs.apply.Statement.{statement}
+use Rattle.ring_moves.proofs.apply.Tie as tie
 
 enum-told : tie.Need-enum-told
 enum-told c = search needs

@@ -1,12 +1,12 @@
--- `settle::move_all` meets its contract.
+-- `ring_moves::move_all` meets its contract.
 use Rattle.bank.specs.Queues.{queuesOf}
 use Rattle.model.specs.View.{Cmd, Cmdr, Sdo, Sdi, Ibi}
 use Rattle.effect.specs.Effects.{fiveOf}
 use mathlib.Core.Path.{refl, _∙_}
-use Rattle.settle.proofs.Laws.{asked, moves, all-moved}
+use Rattle.ring_moves.proofs.Laws.{asked, moves, all-moved}
 use borrow.Author.Needs.{needs}
-use Rattle.settle.proofs.move_all.Statement.{statement}
-use Rattle.settle.proofs.move_all.Tie as tie
+use Rattle.ring_moves.proofs.move_all.Statement.{statement}
+use Rattle.ring_moves.proofs.move_all.Tie as tie
 
 ring-of-requires : tie.Need-ring-of-requires
 ring-of-requires c κs = search needs

@@ -1,8 +1,8 @@
--- `settle::put_table` meets its contract.
+-- `table_entries::put_table` meets its contract.
 use Rattle.effect.specs.Effects.{tablesBy}
 use borrow.Author.Needs.{needs}
-use Rattle.settle.proofs.put_table.Statement.{statement}
-use Rattle.settle.proofs.put_table.Tie as tie
+use Rattle.table_entries.proofs.put_table.Statement.{statement}
+use Rattle.table_entries.proofs.put_table.Tie as tie
 
 enum-told : tie.Need-enum-told
 enum-told c = search needs

@@ -1,9 +1,9 @@
--- `settle::move_any` meets its contract.
+-- `ring_moves::move_any` meets its contract.
 use Rattle.bank.specs.Queues.{queuesOf}
-use Rattle.settle.proofs.Laws.{touched, refit, kept}
+use Rattle.ring_moves.proofs.Laws.{touched, refit, kept}
 use borrow.Author.Needs.{needs}
-use Rattle.settle.proofs.move_any.Statement.{statement}
-use Rattle.settle.proofs.move_any.Tie as tie
+use Rattle.ring_moves.proofs.move_any.Statement.{statement}
+use Rattle.ring_moves.proofs.move_any.Tie as tie
 
 move-all-requires : tie.Need-move-all-requires
 move-all-requires c κs = let start = c .before .before .before in (start .pre .0, refit _ _ _ (touched (start .args .o) (c .before .if1 .taken)) (start .pre .1))

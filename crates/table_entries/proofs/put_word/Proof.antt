@@ -1,9 +1,9 @@
--- `settle::put_word` meets its contract.
+-- `table_entries::put_word` meets its contract.
 use mathlib.Core.Path.{sym}
-use Rattle.settle.proofs.Laws.{set-past}
+use Rattle.table_entries.proofs.Laws.{set-past}
 use borrow.Author.Needs.{needs}
-use Rattle.settle.proofs.put_word.Statement.{statement}
-use Rattle.settle.proofs.put_word.Tie as tie
+use Rattle.table_entries.proofs.put_word.Statement.{statement}
+use Rattle.table_entries.proofs.put_word.Tie as tie
 
 mul-words : tie.Need-mul-words
 mul-words c = search needs

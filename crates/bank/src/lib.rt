@@ -252,8 +252,14 @@ pub fn state_with(caps: Counts, levels: Counts, g: Regs, c: Control, p: Phase) -
     }
 }
 
-// Whether the lowest bit of a word is set.
+// Whether the lowest bit of a word, or of a byte, is set.
 pub fn low_bit(v: u32) -> bool
+    ensures { λ b. ⌜ b ≡ bit 0 v ⌝ }
+{
+    v % 2 == 1
+}
+
+pub fn byte_low_bit(v: u8) -> bool
     ensures { λ b. ⌜ b ≡ bit 0 v ⌝ }
 {
     v % 2 == 1

@@ -11,7 +11,7 @@ use ring::Bytes;
 pub fn is_offload(g: Regs) -> bool
     ensures { λ b. ⌜ b ≡ offloads g ⌝ }
 {
-    bank::low_bit(g.ops as u32)
+    bank::byte_low_bit(g.ops)
 }
 
 // How many offload commands a burst runs.

@@ -21,7 +21,7 @@ fn interrupt_number(st: State, f: u8) -> u32
     let config = st.regs.config;
     let idle = phases::is_idle(p);
     let listens = config / 2 % 2 == 1;
-    let admits = bank::low_bit(config as u32) & bank::low_bit(f as u32) & (f / 2 % 2 == 1);
+    let admits = bank::byte_low_bit(config) & bank::byte_low_bit(f) & (f / 2 % 2 == 1);
     let full = st.caps.ibi.0 <= st.levels.ibi.0;
     let n = bank::select(full, number::NO_ROOM, 0);
     let n = bank::select(!admits, number::NOT_ACKNOWLEDGED, n);

@@ -27,7 +27,7 @@ pub fn weigh(test: bool, w: u32) -> u32
 fn source_bits(m: u8, a: bool, b: bool, c: bool, d: bool, e: bool, f: bool, g: bool, h: bool) -> u32
     ensures { λ r. ⌜ r ≡ weigh (a && bit 0 m) 1 + weigh (b && bit 1 m) 2 + weigh (c && bit 2 m) 4 + weigh (d && bit 3 m) 8 + weigh (e && bit 4 m) 16 + weigh (f && bit 5 m) 32 + weigh (g && bit 6 m) 64 + weigh (h && bit 7 m) 128 ⌝ }
 {
-    weigh(a & bank::low_bit(m as u32), 1)
+    weigh(a & bank::byte_low_bit(m), 1)
         + weigh(b & (m / 2 % 2 == 1), 2)
         + weigh(c & (m / 4 % 2 == 1), 4)
         + weigh(d & (m / 8 % 2 == 1), 8)

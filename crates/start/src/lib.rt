@@ -69,7 +69,7 @@ fn begun_by(two: bool, w: u32, x: u32, attached: bool) -> Phase
 fn is_attached(k: Kind, flags: u8) -> bool
     ensures { λ r. ⌜ r ≡ (broadcast k || bit 0 flags) ⌝ }
 {
-    phases::is_broadcast(k) | bank::low_bit(flags as u32)
+    phases::is_broadcast(k) | bank::byte_low_bit(flags)
 }
 
 // The transfer that a private command opens: its device may be attached now.
@@ -94,7 +94,7 @@ fn start_number(st: State, w: u32, x: u32) -> u32
     let n = bank::select(blocked, number::SDO_NOT_EMPTY, 0);
     let n = bank::select(!waits, number::NO_COMMAND, n);
     let n = bank::select(
-        bank::low_bit(st.regs.ops as u32),
+        bank::byte_low_bit(st.regs.ops),
         number::NOT_IN_THIS_MODE,
         n,
     );

@@ -93,11 +93,7 @@ fn start_number(st: State, w: u32, x: u32) -> u32
     let blocked = is_entdaa(two, w, x) & !(st.levels.sdo.0 == 0);
     let n = bank::select(blocked, number::SDO_NOT_EMPTY, 0);
     let n = bank::select(!waits, number::NO_COMMAND, n);
-    let n = bank::select(
-        bank::byte_low_bit(st.regs.ops),
-        number::NOT_IN_THIS_MODE,
-        n,
-    );
+    let n = bank::select(bank::byte_low_bit(st.regs.ops), number::NOT_IN_THIS_MODE, n);
     effect::while_idle(st.control.held, idle, n)
 }
 

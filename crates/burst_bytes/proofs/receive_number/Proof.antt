@@ -5,6 +5,9 @@ use borrow.Author.Needs.{needs}
 use Rattle.burst_bytes.proofs.receive_number.Statement.{statement}
 use Rattle.burst_bytes.proofs.receive_number.Tie as tie
 
+is-reading-requires : tie.Need-is-reading-requires
+is-reading-requires c κs = search needs
+
 byte-number-requires : tie.Need-byte-number-requires
 byte-number-requires c κs = search needs
 
@@ -16,9 +19,14 @@ select-requires c κs = search needs
 
 returns : tie.Need-returns
 unfolding burstReceive
-returns c = λ a p o f byte h. let n = c .before .before .before in
-    rw (c .select .ensures, c .before .is-lacking .ensures, c .before .before .byte-number .ensures, short-is (n .args .st) a (n .args .commands .now) p o f (n .args .len) (n .pre) h)
+returns c = λ a p o f byte h.
+    let lacks = c .before in
+    let byte-number = lacks .before in
+    let way = byte-number .before in
+    let n = way .before in
+    rw (c .select .ensures, lacks .is-lacking .ensures, byte-number .byte-number .ensures, way .is-reading .ensures, short-is (n .args .st) a (n .args .commands .now) p o f (n .args .len) (n .pre) h)
 
 pub receive-number-spec : {M : Type 1} → statement M
 receive-number-spec =
-    tie.close (tie.spec byte-number-requires is-lacking-requires select-requires returns)
+    tie.close
+    (tie.spec is-reading-requires byte-number-requires is-lacking-requires select-requires returns)

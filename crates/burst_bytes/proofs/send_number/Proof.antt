@@ -5,6 +5,9 @@ use borrow.Author.Needs.{needs}
 use Rattle.burst_bytes.proofs.send_number.Statement.{statement}
 use Rattle.burst_bytes.proofs.send_number.Tie as tie
 
+is-writing-requires : tie.Need-is-writing-requires
+is-writing-requires c κs = search needs
+
 byte-number-requires : tie.Need-byte-number-requires
 byte-number-requires c κs = search needs
 
@@ -16,9 +19,14 @@ select-requires c κs = search needs
 
 returns : tie.Need-returns
 unfolding burstSend
-returns c = λ a p o f h. let n = c .before .before .before in
-    rw (c .select .ensures, c .before .is-lacking .ensures, c .before .before .byte-number .ensures, short-is (n .args .st) a (n .args .commands .now) p o f (n .args .len) (n .pre) h)
+returns c = λ a p o f h.
+    let lacks = c .before in
+    let byte-number = lacks .before in
+    let way = byte-number .before in
+    let n = way .before in
+    rw (c .select .ensures, lacks .is-lacking .ensures, byte-number .byte-number .ensures, way .is-writing .ensures, short-is (n .args .st) a (n .args .commands .now) p o f (n .args .len) (n .pre) h)
 
 pub send-number-spec : {M : Type 1} → statement M
 send-number-spec =
-    tie.close (tie.spec byte-number-requires is-lacking-requires select-requires returns)
+    tie.close
+    (tie.spec is-writing-requires byte-number-requires is-lacking-requires select-requires returns)

@@ -1,4 +1,5 @@
-// Address requests and address takes of ENTDAA, as decisions.
+// Address requests and address takes of ENTDAA, as decisions (`request.tests`, `request.opens`, `take.tests`,
+// `take.address`). It knows the state, and of SDO its first word.
 ghost use mathlib.Core.Path.{_≡_};
 ghost use mathlib.Core.Bool.{cond};
 ghost use Prim.Native.Nat.{ℕ, _/_, _%_, _^_};
@@ -16,7 +17,7 @@ use bank::Transfer;
 use effect::Effect;
 use effect::Op;
 
-// Pending bit 7, set where `b` holds.
+// Pending bit 7, set where `b` holds (`source.address`).
 fn ask(c: Control, b: bool) -> Control
     ensures { λ r. ⌜ r ≡ asked b c ⌝ }
 {
@@ -25,7 +26,7 @@ fn ask(c: Control, b: bool) -> Control
     next
 }
 
-// The number of an address request, 0 where none of its tests holds.
+// The number of an address request, 0 where none of its tests holds (`request.tests`).
 fn request_number(st: State) -> u32
     ensures { λ n. ⌜ ((t : Tables) (f : Fronts) (v w : ℕ) → n ≡ number (request (seen st t f) v w)) ⌝ }
 {
@@ -38,7 +39,7 @@ fn request_number(st: State) -> u32
     effect::while_open(st.control.held, idle, n)
 }
 
-// An address request of a device, whose two words go to SDI.
+// An address request, whose two words go to SDI (`request.opens`).
 pub fn request(st: State, x: u32, w: u32) -> Effect
     ensures { λ e. ⌜ ((t : Tables) (f : Fronts) → effectOf e t ≡ verdict (λ v. request v x w) (seen st t f)) ⌝ }
 {
@@ -54,7 +55,7 @@ pub fn request(st: State, x: u32, w: u32) -> Effect
     effect::done(st, 0, 0, g, c, Phase::Requested(t), o)
 }
 
-// The number of an address take, 0 where none of its tests holds.
+// The number of an address take, 0 where none of its tests holds (`take.tests`).
 fn take_number(st: State) -> u32
     ensures { λ n. ⌜ ((t : Tables) (f : Fronts) → n ≡ number (takeAddress (seen st t f))) ⌝ }
 {
@@ -66,14 +67,14 @@ fn take_number(st: State) -> u32
     effect::while_open(st.control.held, idle, n)
 }
 
-// Whether the address and its parity bit, bits 31:24, hold an odd number of ones.
+// Whether address and parity bit, 31:24, have an odd number of ones (`take.address`).
 fn is_odd(w: u32) -> bool
     ensures { λ r. ⌜ r ≡ eqb (ones (w / 2 ^ 24) % 2) 1 ⌝ }
 {
     u32::count_ones(w / 16777216) % 2 == 1
 }
 
-// The phase after an address was taken: where its parity is wrong the request stays open.
+// The phase after an address was taken: with a wrong parity bit the request stays open.
 fn replied(odd: bool, t: Transfer) -> Phase
     ensures { λ p. ⌜ p ≡ cond odd (Answered t) (Requested t) ⌝ }
 {
@@ -83,7 +84,7 @@ fn replied(odd: bool, t: Transfer) -> Phase
     Phase::Requested(t)
 }
 
-// The address for the open request, taken from SDO, whose first word is `word`.
+// The address for the open request, taken from SDO, whose first word is `word` (`take.address`).
 pub fn take_address(st: State, word: u32) -> Effect
     ensures { λ e. ⌜ ((t : Tables) (f : Fronts) → word ≡ f .sdo .first → effectOf e t ≡ verdict takeAddress (seen st t f)) ⌝ }
 {

@@ -1,4 +1,4 @@
--- Facts from tests joined by && and ||.
+-- What follows where tests joined by && and || hold, or do not.
 use Prim.Native.Nat.{ℕ, _/_, _%_}
 use native.Mathlib.Omega.{arith}
 use mathlib.Core.Path.{_≡_, refl, ap}

@@ -1,4 +1,4 @@
--- A well-formed bank by its parts; its rings are valid; set-up gives one.
+-- A well-formed bank by its parts; its rings are valid; set-up answered 0 gives one (`formed.kept`).
 use Prim.Native.Nat.{ℕ, _≤_}
 use native.Mathlib.Omega.{arith}
 use mathlib.Core.Path.{_≡_, refl}

@@ -1,4 +1,5 @@
-// A byte sent and a byte received in an open burst, as decisions. No queue is touched.
+// A byte sent and a byte received in an open burst, as decisions (`burst.events`, `burst.bytes`). They know the state
+// and the tables, and no queue.
 ghost use mathlib.Core.Path.{_≡_};
 ghost use mathlib.Core.Bool.{true};
 ghost use mathlib.Core.List.{List};
@@ -15,7 +16,7 @@ use bank::Phase;
 use bank::State;
 use effect::Effect;
 
-// The offload data word of the write at hand: the next for each write.
+// The offload data word of the open write, told by the writes before it (`burst.bytes`).
 fn data_word(c: Control, commands: &[u32; 16], payloads: &[u32; 16]) -> u32
     requires { ⌜ c .burst ≤ 15 ⌝ }
     ensures { λ w. ⌜ w ≡ getD (now (payloads .entry)) (writesIn (place c) (now (commands .entry))) 0 ⌝ }
@@ -28,7 +29,7 @@ fn data_word(c: Control, commands: &[u32; 16], payloads: &[u32; 16]) -> u32
     payloads[k - burst_commands::reads_in(commands, k)]
 }
 
-// The number of a byte sent, 0 where none of its tests holds.
+// The number of a send, 0 where none of its tests holds: 13 for the output, then `send.tests` without 12.
 fn send_number(st: State, commands: &[u32; 16], len: usize) -> u32
     requires { ⌜ bursting (st .control) ≡ true ⌝ }
     ensures { λ n. ⌜ ((a p o : List ℕ) (f : Fronts) → length o ≡ len → (let v = seen st (tables a (now (commands .entry)) p o) f in n ≡ number (outputFirst v (burstSend v)))) ⌝ }
@@ -42,7 +43,7 @@ fn send_number(st: State, commands: &[u32; 16], len: usize) -> u32
     )
 }
 
-// A byte sent: of the offload data word, as many places from its top as bytes have moved.
+// A byte sent: of the data word, as many places from its top as bytes have moved.
 pub fn send(st: State, commands: &[u32; 16], payloads: &[u32; 16], len: usize) -> Effect
     requires { ⌜ (bursting (st .control) ≡ true) × (openOk (st .control) (st .regs) (st .phase) (now commands) ≡ true) ⌝ }
     ensures { λ e. ⌜ ((a o : List ℕ) (f : Fronts) → length o ≡ len → (let t = tables a (now (commands .entry)) (now (payloads .entry)) o in effectOf e t ≡ verdict (λ v. outputFirst v (burstSend v)) (seen st t f))) ⌝ }
@@ -62,7 +63,7 @@ pub fn send(st: State, commands: &[u32; 16], payloads: &[u32; 16], len: usize) -
     effect::done(st, byte, 0, g, c, Phase::Writing(next), o)
 }
 
-// The number of a byte received, 0 where none of its tests holds.
+// The number of a receive, 0 where none of its tests holds: 13 for the output, then `receive.tests` without 13.
 fn receive_number(st: State, commands: &[u32; 16], len: usize) -> u32
     requires { ⌜ bursting (st .control) ≡ true ⌝ }
     ensures { λ n. ⌜ ((a p o : List ℕ) (f : Fronts) (byte : ℕ) → length o ≡ len → (let v = seen st (tables a (now (commands .entry)) p o) f in n ≡ number (outputFirst v (burstReceive v byte)))) ⌝ }

@@ -1,4 +1,4 @@
-// Which commands an offload burst runs, and where it stands.
+// Which commands an offload burst runs, and where it stands: specs/Bursts.antt in code.
 ghost use mathlib.Core.Path.{_≡_};
 ghost use Prim.Native.Nat.{_≤_};
 ghost use Rattle.bank.specs.Bursts.{offloads, span, carried, allCarried, readsIn, bursting, opens, gatheredBytes};
@@ -7,21 +7,21 @@ use bank::Phase;
 use bank::Regs;
 use ring::Bytes;
 
-// Whether OPS has offload mode.
+// Whether OPS has offload mode (`ops.keeps`).
 pub fn is_offload(g: Regs) -> bool
     ensures { λ b. ⌜ b ≡ offloads g ⌝ }
 {
     bank::byte_low_bit(g.ops)
 }
 
-// How many offload commands a burst runs.
+// How many offload commands a burst runs (`burst.commands`).
 pub fn span_of(g: Regs) -> usize
     ensures { λ n. ⌜ (n ≡ span g) × (n ≤ 15) ⌝ }
 {
     (g.ops / 2 % 16) as usize
 }
 
-// Whether a burst can run a command: a private one of at most 4 bytes.
+// Whether a burst can run a command: a private one of at most 4 bytes (29 of `trigger.tests`).
 fn is_carried(w: u32) -> bool
     ensures { λ b. ⌜ b ≡ carried w ⌝ }
 {

@@ -7,7 +7,7 @@ use Rattle.model.specs.View.{Tables, tables}
 use Rattle.effect.specs.declared.Table.the-variants.{Output}
 use Rattle.effect.specs.Effects.{tablesBy}
 
--- a word of the output, where it comes
+-- a word of the output, stored where b holds
 pub output-if : (b : Bool) (i w : ℕ) (t : Tables) → cond b (tablesBy (Output i w) t) t ≡ tables (t .flags) (t .commands) (t .payloads) (cond b (set (t .output) i w) (t .output))
 unfolding tablesBy
 output-if true i w t = refl

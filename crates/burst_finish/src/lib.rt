@@ -1,4 +1,5 @@
-// The finish of a transfer in an open burst, as a decision: its word goes to the output, the next transfer opens.
+// The finish of a transfer in an open burst, as a decision (`burst.finish`): its word goes to the output, the next
+// command's transfer opens. It knows the state and the tables, and no queue.
 ghost use mathlib.Core.Path.{_≡_};
 ghost use mathlib.Core.Bool.{true, cond, _||_};
 ghost use mathlib.Core.List.{List};
@@ -19,7 +20,7 @@ use bank::State;
 use effect::Effect;
 use effect::Table;
 
-// The number of a finish, 0 where none of its tests holds.
+// The number of a finish, 0 where none of its tests holds: 13 for the output, then 5, 7 and 14 of `finish.tests`.
 fn finish_number(st: State, commands: &[u32; 16], len: usize, code: u8) -> u32
     requires { ⌜ bursting (st .control) ≡ true ⌝ }
     ensures { λ n. ⌜ ((a p o : List ℕ) (f : Fronts) → length o ≡ len → (let v = seen st (tables a (now (commands .entry)) p o) f in n ≡ number (outputFirst v (burstFinish v code)))) ⌝ }
@@ -44,7 +45,7 @@ fn after(last: bool, n: u8) -> u8
     if last { 0 } else { n + 1 }
 }
 
-// The transfer of the next command, or none.
+// The phase after a finish: the transfer of the next command, which notes attachment now, or none.
 fn next_phase(last: bool, flags: &[u8; 128], w: u32) -> Phase
     ensures { λ p. ⌜ p ≡ cond last Idle (begun (Single w) (broadcast (kindOf (Single w)) || bit 0 (getD (now (flags .entry)) (bits 7 1 w) 0))) ⌝ }
 {
@@ -55,7 +56,8 @@ fn next_phase(last: bool, flags: &[u8; 128], w: u32) -> Phase
     start::private_phase(w, flags[at])
 }
 
-// The open transfer ends with a code: the word of a read goes to the output, and the next transfer opens.
+// The open transfer ends with a code: the word of a read goes to the output, and the next command's transfer opens
+// (`burst.finish`).
 pub fn finish(st: State, flags: &[u8; 128], commands: &[u32; 16], len: usize, code: u8) -> Effect
     requires { ⌜ (bursting (st .control) ≡ true) × (openOk (st .control) (st .regs) (st .phase) (now commands) ≡ true) ⌝ }
     ensures { λ e. ⌜ ((p o : List ℕ) (f : Fronts) → length o ≡ len → (let t = tables (now (flags .entry)) (now (commands .entry)) p o in effectOf e t ≡ verdict (λ v. outputFirst v (burstFinish v code)) (seen st t f))) ⌝ }

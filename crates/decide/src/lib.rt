@@ -1,4 +1,5 @@
-// Any call, decided on the rings of a bank.
+// Any call, decided on the rings of a bank: 18 (`answer.range`), then by `offload` where it is an event in an open
+// burst, else by `outside`.
 ghost use mathlib.Core.Path.{_≡_};
 ghost use mathlib.Core.Bool.{not};
 ghost use mathlib.Core.List.{List};
@@ -14,7 +15,7 @@ use bank::State;
 use effect::Effect;
 use model::Call;
 
-// Whether an argument of a call is out of its range: a code above 15, an address above 127.
+// Whether an argument of a call is out of its range (`answer.range`).
 fn is_misfit(call: Call) -> bool
     ensures { λ b. ⌜ b ≡ misfit call ⌝ }
 {
@@ -50,8 +51,8 @@ fn is_event(call: Call) -> bool
     }
 }
 
-// Any call. 18 is tested here, once. An event in an open burst then goes apart, so that the others need not carry where a
-// burst stands.
+// Any call. 18 is tested here, once. An event in an open burst then goes a way of its own, so that the code of the
+// others need not hold where a burst stands.
 pub fn decide(
     st: State,
     h: Heads,

@@ -1,14 +1,16 @@
-// Which code may end the open transfer.
+// Which code may end the open transfer (`finish.codes`), in a burst and outside. It knows a phase and a code.
 ghost use mathlib.Core.Path.{_≡_};
 ghost use Rattle.model.specs.Calls.{endsEntdaa, endsOther, allowed};
 use bank::Phase;
 
+// Whether a code may end an ENTDAA.
 fn ends_entdaa(p: Phase, code: u8) -> bool
     ensures { λ r. ⌜ r ≡ endsEntdaa p code ⌝ }
 {
     ((code == 0) & !phases::is_requested(p)) | ((code == 4) & phases::is_unrequested(p))
 }
 
+// Whether a code may end any other transfer whose device was attached.
 fn ends_other(p: Phase, code: u8) -> bool
     ensures { λ r. ⌜ r ≡ endsOther p code ⌝ }
 {

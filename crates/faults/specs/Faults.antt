@@ -1,4 +1,4 @@
--- The number of the two tests before every call.
+-- The number of the two tests before every call, 0 where both are passed: `answer.bank`.
 use Prim.Native.Nat.{ℕ}
 use mathlib.Core.Bool.{Bool, cond, not}
 use lib.Dec.{eqb}

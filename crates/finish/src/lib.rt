@@ -1,4 +1,5 @@
-// The end of a transfer outside a burst, as a decision, behind the test of the code.
+// The finish outside a burst, as a decision (`finish.tests`, `finish.receipt`), of a code that passed 18. It knows the
+// state and the code.
 ghost use mathlib.Core.Path.{_≡_};
 ghost use mathlib.Core.Bool.{true};
 ghost use Prim.Native.Nat.{_≤_, _<_};
@@ -13,7 +14,7 @@ use bank::Phase;
 use bank::State;
 use effect::Effect;
 
-// Whether a part-filled word is left to push.
+// Whether bytes of a read are left that fill no word: that word goes to SDI (`finish.receipt`).
 fn is_padded(p: Phase) -> bool
     ensures { λ r. ⌜ r ≡ padded p ⌝ }
 {
@@ -22,7 +23,7 @@ fn is_padded(p: Phase) -> bool
     phases::is_reading(p) & (t.moved.0 / 4 < words.0)
 }
 
-// The number of a finish, 0 where none of its tests holds.
+// The number of a finish, 0 where none of its tests holds (`finish.tests`).
 fn finish_number(st: State, code: u8) -> u32
     ensures { λ n. ⌜ ((t : Tables) (f : Fronts) → n ≡ number (finish (seen st t f) code)) ⌝ }
 {
@@ -38,6 +39,7 @@ fn finish_number(st: State, code: u8) -> u32
     effect::while_open(st.control.held, idle, n)
 }
 
+// The receipt of a transfer (`receipt.word`).
 fn receipt(code: u8, moved: u32, sync: u8) -> u32
     requires { ⌜ (code ≤ 15) × (moved < 4096) ⌝ }
     ensures { λ r. ⌜ r ≡ receiptWord code moved sync ⌝ }
@@ -45,7 +47,7 @@ fn receipt(code: u8, moved: u32, sync: u8) -> u32
     code as u32 * 0x100000 + moved * 256 + sync as u32
 }
 
-// A receipt more is queued.
+// One receipt more: the next sync (`receipt.sync`), and pending bit 5 (`source.receipt`).
 fn counted(c: Control) -> Control
     ensures { λ r. ⌜ r ≡ receipted c ⌝ }
 {
@@ -55,7 +57,7 @@ fn counted(c: Control) -> Control
     next
 }
 
-// The open transfer ends with a code.
+// The open transfer ends with a code; its receipt is the value (`finish.receipt`).
 pub fn finish(st: State, code: u8) -> Effect
     requires { ⌜ (phaseOk (st .phase) ≡ true) × (code ≤ 15) ⌝ }
     ensures { λ e. ⌜ ((t : Tables) (f : Fronts) → effectOf e t ≡ verdict (λ v. finish v code) (seen st t f)) ⌝ }

@@ -1,4 +1,4 @@
-// Whether a bank is well formed.
+// Whether a bank is well formed, from its parts: `formed_ranges`, `formed_reset`, `formed_transfer`, `formed_burst`.
 ghost use mathlib.Core.Path.{_≡_};
 ghost use Rattle.bank.specs.Formed.{openOk, wellFormed};
 use bank::Bank;
@@ -16,7 +16,8 @@ fn open_ok(c: Control, g: Regs, p: Phase, commands: &[u32; 16]) -> bool
     formed_burst::burst_ok(c, g, p, commands)
 }
 
-// Whether a bank is well formed, as 01 says it.
+// Whether a bank is well formed: `formed.set-up`, `formed.fields`, `formed.moved`, `formed.part`, `formed.reset`,
+// `formed.burst`.
 pub fn well_formed(b: Bank) -> bool
     ensures { λ r. ⌜ r ≡ wellFormed b ⌝ }
 {

@@ -1,4 +1,5 @@
-// Whether what an open burst stands for fits its commands: its mode, its place and the transfer of its command.
+// A part of well formed: the mode and the commands of an open burst, the place where it stands, and the transfer of the
+// command there (`formed.burst`).
 ghost use mathlib.Core.Path.{_≡_};
 ghost use lib.ListN.{getD};
 ghost use Rattle.bank.specs.Bursts.{place};
@@ -7,7 +8,7 @@ use bank::Control;
 use bank::Phase;
 use bank::Regs;
 
-// The place of the command that a burst stands at.
+// The place of the command whose transfer is open.
 fn place_of(c: Control) -> usize
     ensures { λ k. ⌜ k ≡ place c ⌝ }
 {
@@ -27,6 +28,7 @@ fn word_at(words: &[u32], k: usize) -> u32
     0
 }
 
+// Whether an open burst is well formed.
 pub fn burst_ok(c: Control, g: Regs, p: Phase, commands: &[u32; 16]) -> bool
     ensures { λ b. ⌜ b ≡ burstOk c g p (now (commands .entry)) ⌝ }
 {

@@ -1,4 +1,4 @@
--- The law of a burst, and that an interrupt request is 6 throughout.
+-- The law of a burst, and that an interrupt request is 6 as long as it is open.
 use Prim.Native.Nat.{ℕ, suc, _+_, _≤_}
 use native.Mathlib.Omega.{arith}
 use mathlib.Core.Path.{_≡_, refl, ap, sym, _∙_}
@@ -83,7 +83,7 @@ burst-law l cs code t n c f =
       closed = z .1;
     }
 
--- ── Busy throughout ───────────────────────────────────────────────────────────────────────────────────────────
+-- ── Busy until the last finish ────────────────────────────────────────────────────────────────────────────────
 -- the output keeps its length
 output-whole : (xs o : List ℕ) (n : ℕ) → length xs ≡ n → n ≤ length o → length (xs ++ drop n o) ≡ length o
 output-whole xs o n e h =

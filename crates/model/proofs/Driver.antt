@@ -1,4 +1,4 @@
--- The laws that a driver author asks for.
+-- The laws for authors of drivers.
 use Prim.Native.Nat.{ℕ, zero, suc, _+_, _-_, _*_, _^_, _<_, _≤_}
 use native.Mathlib.Omega.{arith}
 use mathlib.Core.Path.{_≡_, refl, ap, sym, _∙_, subst}
@@ -332,7 +332,7 @@ reads-keep (o ∷ os) w l =
     let b = reads-keep os w (step rings m (Read o) .next) in
     record { phase = b .phase ∙ a .phase; sync = b .sync ∙ a .sync; held = b .held ∙ a .held; burst = b .burst ∙ a .burst }
 
--- outside a burst the finish decides as 01 says
+-- outside a burst a finish is `finish`, behind 18
 direct-finish : (s : View) (code : ℕ) → bursting (s .control) ≡ false → decide s (Finish code) ≡ (ltb 15 code ⇒ 18 ∣ false ⇒ 13 ∣ finish s code)
 unfolding short
 direct-finish s code e = rw e

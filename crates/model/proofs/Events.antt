@@ -1,4 +1,4 @@
--- Each call keeps what ties the tally to the lists: one lemma for each call.
+-- Each call keeps the invariant between the tally and the lists: one lemma for each call.
 use Prim.Native.Nat.{ℕ, suc, _-_, _/_, _%_, _^_, zero-le}
 use native.Mathlib.Omega.{arith}
 use mathlib.Core.Path.{_≡_, refl, ap, sym, _∙_, subst}

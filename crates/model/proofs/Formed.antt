@@ -1,4 +1,4 @@
--- A call keeps a bank well formed, part by part: rings, registers, flags, phase, and what holds in reset.
+-- `formed.kept`, part by part: rings, registers, flags, phase, and what holds in reset.
 use Prim.Native.Nat.{ℕ, zero, suc, _+_, _-_, _*_, _/_, _%_, _^_, _≤_, _<_}
 use native.Mathlib.Omega.{arith}
 use mathlib.Core.Path.{_≡_, refl, ap, sym, _∙_}

@@ -162,7 +162,7 @@ stored-word false xs o n u v e h p =
     let f : n ≡ n + 0 = omega arith in
     ap (λ (r : List ℕ). r ++ drop n o) (sym (append-nil xs)) ∙ ap (λ (k : ℕ). xs ++ [] ++ drop k o) f
 
--- r: a read is at hand; i: its place in the output; u: its word
+-- r: the open transfer is a read; i: its place in the output; u: its word
 output-one : (ws o out : List ℕ) (ts : List Moved) (t : Moved) (r : Bool) (i u : ℕ) → out ≡ readWords ws 0 ts ++ drop (readsIn (length ts) ws) o → readsIn (suc (length ts)) ws ≤ length o → r ≡ bit 0 (getD ws (length ts) 0) → i ≡ readsIn (length ts) ws
     → (bit 0 (getD ws (length ts) 0) ≡ true → u ≡ packed 0 (t .received)) → cond r (set out i u) out ≡ readWords ws 0 (snoc ts t) ++ drop (readsIn (length (snoc ts t)) ws) o
 unfolding readsIn
@@ -185,7 +185,7 @@ output-one ws o out ts t r i u e h f j p =
     ∙ ap (λ (m : ℕ). readWords ws 0 (snoc ts t) ++ drop (readsIn m ws) o) (sym (length-snoc ts t))
 
 -- ── What holds between calls ──────────────────────────────────────────────────────────────────────────────────
--- the transfer at hand: w is its command, d the data word that its place gives
+-- the open transfer: w is its command, d the data word that its place gives
 pub record AtHand (w d : ℕ) (t : Transfer) (now : Moved) : Type 0 where
   pub moved : t .moved .0 ≡ length (now .sent) + length (now .received)
   pub reads : bit 0 w ≡ true → (now .sent ≡ []) × (t .part ≡ packed 0 (now .received))
@@ -218,7 +218,7 @@ Stays l g c d =
     let h = noted g c (record { value = e .value; number = e .number }) in
     Passed d → suc (length (h .done)) ≤ span (l .bank .state .regs) → Going l (e .regs .ops) (e .control .burst) (e .phase) (e .tables .commands) (e .tables .payloads) (e .tables .output) h
 
--- ── The direction of the transfer at hand ─────────────────────────────────────────────────────────────────────
+-- ── The direction of the open transfer ────────────────────────────────────────────────────────────────────────
 is-reading : (b : Bool) (p : Phase) → cond b (reading p) (writing p) ≡ true → reading p ≡ b
 is-reading true p e = e
 is-reading false Idle e = refl
@@ -386,7 +386,7 @@ module _ (l : Controller) (g : Log) (s : View) (h : GoesOn l s g) (o : Opened s)
         writes = λ z. absurd (true≢false (sym b ∙ z));
       })
 
-  -- the transfer at hand is done
+  -- the open transfer is done
   now-fits : Agrees (l .bank .commands) (l .bank .payloads) at (g .now)
   now-fits =
       let t = transfer (s .phase) in

@@ -1,4 +1,4 @@
--- The demand names four registers by their offsets. At every other offset the row is one that the demand does not count.
+-- Demand 3 counts accesses at four offsets. At every other the row is one that leaves what it speaks of alone.
 use Prim.Native.Nat.{ℕ, _-_, _/_}
 use mathlib.Core.Path.{_≡_, refl, subst}
 use mathlib.Core.Bool.{Bool, true, false, cond, _&&_, _||_, true≢false}

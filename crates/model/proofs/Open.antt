@@ -1,4 +1,4 @@
--- A call keeps what well formed asks of the open transfer, outside a burst and inside one.
+-- `formed.kept`, of what is open: outside a burst, and in one.
 use Prim.Native.Nat.{ℕ, zero, suc, _+_, _-_, _*_, _/_, _%_, _^_, _≤_, _<_}
 use native.Mathlib.Omega.{arith}
 use mathlib.Core.Path.{_≡_, refl, ap, sym, _∙_, subst}

@@ -1,4 +1,4 @@
--- A call that is not refused pushes only where there is room, and takes only what is there.
+-- Every effect fits its queues: a call that is not refused pushes only where there is room, and takes only what is there.
 use Prim.Native.Nat.{ℕ, zero, suc, _+_, _≤_}
 use native.Mathlib.Omega.{arith}
 use mathlib.Core.Path.{_≡_}

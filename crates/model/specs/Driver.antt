@@ -1,4 +1,5 @@
--- Laws that a driver author asks for, as statements about `step`. proofs/Driver.antt has a proof of each.
+-- Laws for authors of drivers, as statements about `step`: what is read back, rooms, what a read changes, reset and release, a finish made
+-- again. proofs/Driver.antt has a proof of each.
 use Prim.Native.Nat.{ℕ, _+_, _*_, _%_, _^_, _<_}
 use mathlib.Core.Path.{_≡_}
 use mathlib.Core.Bool.{Bool, true, false, cond, _&&_, _||_}
@@ -25,8 +26,7 @@ use Rattle.model.specs.Rings.{Controller, areas, wordsIn, viewRings, rin
 use Rattle.model.specs.Laws.{fresh, same}
 
 -- ── What is written is read back, by the register's named bits ────────────────────────────────────────────────
--- the bits that a read shows of a word written: IBI_CONFIG is write-only; OPS has its bit 7 from the transfer; DEV_CHAR shows the
--- flags of the address selected
+-- what a read shows of the word v that was written: by `map.bits`, `map.write-only`, `ops.keeps`, `dev-char.read`
 abbrev pub shownOf : Cell → ℕ → Controller → ℕ
 shownOf scratch v l = v
 shownOf mask v l = v % 2 ^ 8
@@ -36,7 +36,7 @@ shownOf devChar v l = bits 15 9 v * 2 ^ 9 + cond (bit 8 v) (bits 3 1 v) (getD (l
 shownOf (offloadCmd i) v l = v
 shownOf (offloadSdo i) v l = v
 
--- the tables have a place for it: 128 devices, sixteen words
+-- the tables have a place for it: by their types 128 devices and sixteen words
 abbrev pub Within : Cell → ℕ → Controller → Type 0
 Within scratch v l = Unit {0}
 Within mask v l = Unit {0}
@@ -46,7 +46,8 @@ Within devChar v l = bits 15 9 v < length (l .bank .flags)
 Within (offloadCmd i) v l = i < length (l .bank .commands)
 Within (offloadSdo i) v l = i < length (l .bank .payloads)
 
--- a write to such a register is taken, in reset too, but to OPS and the offload memories not while a burst is open: then it is 6
+-- `access.reset`, `burst.holds`: a write to such a register is taken, in reset too, but to OPS and the offload memories not while a burst
+-- is open: then it is 6
 unfoldable pub PlainWriteTaken : Type 0
 PlainWriteTaken =
     (l : Controller) (o v : ℕ) (c : Cell) → row (registerAt o) ≡ holds c → wellFormed (l .bank) ≡ true → length (l .store) ≡ total (l .bank .state .caps) → step rings l (Write o v) .answer ≡ record { value = 0; number = cond (burstHolds c && bursting (l .bank .state .control)) 6 0 }
@@ -56,11 +57,11 @@ ReadBack =
     (l : Controller) (o v : ℕ) (c : Cell) → row (registerAt o) ≡ holds c → Within c v l → step rings l (Write o v) .answer .number ≡ 0
     → step rings (step rings l (Write o v) .next) (Read o) .answer ≡ record { value = shownOf c v l; number = 0 }
 
--- CMD and SDO: "write pushes, read gives 0"
+-- `map.write-only`: CMD and SDO read 0
 unfoldable pub PushesReadZero : Type 0
 PushesReadZero = (l : Controller) (o : ℕ) (q : Queue) → row (registerAt o) ≡ pushes q → step rings l (Read o) .answer .value ≡ 0
 
--- ── The room of CMD and SDO plus the words that they hold is the capacity, after any list of calls ────────────
+-- ── `room.read`: room and words of CMD and of SDO make the capacity, after any list of calls ──────────────────
 pub record RoomIs (l : Controller) (caps : Sizes) : Type 0 where
   pub cmd : step rings l (Read 0x0c0) .answer .value + length (wordsIn (areas (queuesIn (l .bank)) .cmd) (l .store)) ≡ caps .cmd
   pub sdo : step rings l (Read 0x0c8) .answer .value + length (wordsIn (areas (queuesIn (l .bank)) .sdo) (l .store)) ≡ caps .sdo
@@ -79,12 +80,12 @@ takesWord (takes q) = true
 takesWord enables = false
 takesWord acknowledges = false
 
--- of any register but CMDR, SDI and IBI: nothing
+-- `map.reads`: a read of any register but CMDR, SDI and IBI changes nothing
 unfoldable pub ReadChangesNothing : Type 0
 ReadChangesNothing = (l : Controller) (o : ℕ) → takesWord (row (registerAt o)) ≡ false → step rings l (Read o) .next ≡ l
 
--- of those three: its first word, which is the value, leaves that queue (the law OthersStay has the other queues), and of CMDR and IBI
--- the pending bit goes where the queue is then empty
+-- `take.read`, of those three: its first word, which is the value, leaves that queue (OthersStay has the other queues); `source.receipt`,
+-- `source.interrupt`: of CMDR and IBI the pending bit is cleared where the queue is then empty
 pub record ControlAfter (q : Queue) (emptied : Bool) (c d : Control) : Type 0 where
   pub held : d .held ≡ c .held
   pub sync : d .sync ≡ c .sync
@@ -109,12 +110,12 @@ pub record ReadTook (l m : Controller) (value : ℕ) (q : Queue) : Type 0 where
   pub payloads : m .bank .payloads ≡ l .bank .payloads
   pub control : ControlAfter q (last (of q (viewRings l .queues))) (l .bank .state .control) (m .bank .state .control)
 
--- no read takes from SDO
+-- SDO is excluded: no register takes from it
 unfoldable pub ReadTakesOne : Type 0
 ReadTakesOne =
     (l : Controller) (o : ℕ) (q : Queue) → row (registerAt o) ≡ takes q → same Sdo q ≡ false → step rings l (Read o) .answer .number ≡ 0 → ReadTook l (step rings l (Read o) .next) (step rings l (Read o) .answer .value) q
 
--- ── Reset and release ─────────────────────────────────────────────────────────────────────────────────────────
+-- ── Reset and release: `enable.reset`, `enable.release`, `enable.keeps` ───────────────────────────────────────
 -- after a release: no transfer, syncs and pending bits 0, all queues empty, whatever was before
 pub record Clean (l : Controller) : Type 0 where
   pub control : l .bank .state .control ≡ cleared false
@@ -129,7 +130,7 @@ ReleasedClean =
     let free = step rings (held .next) (Write 0x040 0) in
     (held .answer ≡ record { value = 0; number = 0 }) × (free .answer ≡ record { value = 0; number = 0 }) × Clean (free .next)
 
--- the mask, the other registers, the device table and the offload memories outlive a reset
+-- the registers, the device table and the offload memories are as before the reset
 pub record Outlives (l m : Controller) : Type 0 where
   pub regs : m .bank .state .regs ≡ l .bank .state .regs
   pub flags : m .bank .flags ≡ l .bank .flags
@@ -139,7 +140,8 @@ pub record Outlives (l m : Controller) : Type 0 where
 unfoldable pub ResetKeeps : Type 0
 ResetKeeps = (l : Controller) (v : ℕ) → Outlives l (step rings l (Write 0x040 v) .next)
 
--- ── A finish outside a burst, refused for room, then made again after reads: refused for room alone, else with the first's receipt ──
+-- ── A finish outside a burst that was refused with 13, made again after reads: `finish.tests`, `answer.refusal` ─
+-- It is 13 again where there is still no room, and else gives the receipt that the first would have given.
 abbrev pub reads : List ℕ → List Call
 reads [] = []
 reads (o ∷ os) = Read o ∷ reads os

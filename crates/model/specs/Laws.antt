@@ -1,4 +1,5 @@
--- The laws of `step`, as statements. proofs/ has a proof of each.
+-- Laws of `step`, as statements: both engines agree, refusals, what stays well formed, what a call leaves alone. proofs/ has a proof of
+-- each.
 use Prim.Native.Nat.{ℕ}
 use mathlib.Core.Path.{_≡_}
 use mathlib.Core.Bool.{Bool, true, false, _||_}
@@ -19,10 +20,11 @@ use Rattle.model.specs.Engine.{Step, step, Lent, final, answers}
 use Rattle.model.specs.Rings.{Controller, areas, wordsIn, viewRings, rings}
 use Rattle.model.specs.Lists.{ListQueue, Lists, lists}
 
+-- the ring engine right after a set-up, with any store
 abbrev pub fresh : Sizes → Sizes → ℕ → List ℕ → Controller
 fresh caps marks id store = record { bank = setUp caps marks id .bank; store = store; output = [] }
 
--- the same set-up with every queue an empty list
+-- the list engine after the same set-up: every queue is an empty list
 abbrev pub emptyQueue : ℕ → ListQueue
 emptyQueue cap = record { cap = cap; words = [] }
 
@@ -31,8 +33,8 @@ freshLists c m id =
     let v = viewRings (fresh c m id []) in
     record { regs = v .regs; control = v .control; phase = v .phase; tables = v .tables; queues = each (emptyQueue (c .cmd)) (emptyQueue (c .cmdr)) (emptyQueue (c .sdo)) (emptyQueue (c .sdi)) (emptyQueue (c .ibi)) }
 
--- From the same set-up answered 0, with a store of the right length and any contents, both engines give equal answers along every list
--- of calls, and each ring then holds the words of its list.
+-- `queue.order`: from the same set-up answered 0, with a store of the right length and any contents, both engines give equal answers along
+-- every list of calls, and each ring then holds the words of its list.
 pub record Agreement (caps marks : Sizes) (id : ℕ) (store : List ℕ) (cs : List Lent) : Type 0 where
   pub sameAnswers : answers rings (fresh caps marks id store) cs ≡ answers lists (freshLists caps marks id) cs
   pub sameWords : (k : Queue) → (let l = final rings (fresh caps marks id store) cs in wordsIn (of k (areas (queuesIn (l .bank)))) (l .store) ≡ of k (final lists (freshLists caps marks id) cs .queues) .words)
@@ -41,7 +43,8 @@ unfoldable pub EnginesAgree : Type 0
 EnginesAgree =
     (caps marks : Sizes) (id : ℕ) (store : List ℕ) (cs : List Lent) → setUp caps marks id .answer .number ≡ 0 → length store ≡ total (setUp caps marks id .bank .state .caps) → Agreement caps marks id store cs
 
--- With a bank that is not well formed every call is 21; else with a store of any other length every call is 22. Nothing changes.
+-- `answer.bank`: with a bank that is not well formed every call is 21; else with a store of any other length every call is 22. Nothing
+-- changes.
 abbrev pub refused : Controller → ℕ → Step Controller
 refused l n = record { answer = record { value = 0; number = n }; next = l }
 
@@ -53,12 +56,12 @@ WrongLength =
     (l : Controller) (c : Call) → wellFormed (l .bank) ≡ true → (length (l .store) ≡ total (l .bank .state .caps) → ⊥)
     → step rings l c ≡ refused l number.storeLength
 
--- Any number but 0 and 19 leaves bank, store and output as they were, and the value is 0.
+-- `answer.refusal`: any number but 0 and 19 comes with the value 0, and bank, store and output are as before
 unfoldable pub RefusalChangesNothing : Type 0
 RefusalChangesNothing =
     (l : Controller) (c : Call) → let r = step rings l c in (r .answer .number ≡ 0 → ⊥) → (r .answer .number ≡ number.wrongParity → ⊥) → (r .next ≡ l) × (r .answer .value ≡ 0)
 
--- A set-up answered 0 gives a well-formed bank; it stays so over every call, and a store keeps its length.
+-- `formed.kept`: set-up answered 0 gives a well-formed bank, every call keeps it so, and store and output keep their lengths
 unfoldable pub SetUpWellFormed : Type 0
 SetUpWellFormed = (caps marks : Sizes) (id : ℕ) → setUp caps marks id .answer .number ≡ 0 → wellFormed (setUp caps marks id .bank) ≡ true
 
@@ -68,11 +71,10 @@ StaysWellFormed = (l : Controller) (c : Call) → wellFormed (l .bank) ≡ true 
 unfoldable pub StoreKeepsLength : Type 0
 StoreKeepsLength = (l : Controller) (c : Call) → length (step rings l c .next .store) ≡ length (l .store)
 
--- So does the output.
 unfoldable pub OutputKeepsLength : Type 0
 OutputKeepsLength = (l : Controller) (c : Call) → length (step rings l c .next .output) ≡ length (l .output)
 
--- No call moves a watermark.
+-- `set-up.stays`: no call changes a watermark
 unfoldable pub WatermarksStay : Type 0
 WatermarksStay = (l : Controller) (c : Call) → step rings l c .next .bank .state .regs .marks ≡ l .bank .state .regs .marks
 
@@ -112,7 +114,7 @@ readNames (takes q) k = same q k
 readNames enables k = false
 readNames acknowledges k = false
 
--- a write of 1 to ENABLE clears all queues
+-- a write of 1 to ENABLE names all queues: it clears them
 abbrev pub writeNames : Row → ℕ → Queue → Bool
 writeNames absent v k = false
 writeNames (shows f) v k = false
@@ -134,7 +136,7 @@ names (Request v w) k = same Sdi k
 names Take k = same Sdo k
 names Trigger k = false
 
--- Head, level and words of a queue that a call does not name stay, and so does its place in the store.
+-- `queue.apart`: head, level and words of a queue that a call does not name stay, and so does its place in the store.
 unfoldable pub OthersStay : Type 0
 OthersStay =
     (l : Controller) (c : Call) (k : Queue) → names c k ≡ false

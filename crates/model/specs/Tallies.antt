@@ -1,4 +1,4 @@
--- Demand 3 is not empty: five lists of calls on the session's bank, each with the tally that it comes to.
+-- Demand 3 is not empty (D7 of docs/DECISIONS.md): five lists of calls on the session's bank, each with the tally that it comes to.
 use Prim.Native.Nat.{ℕ, zero, suc}
 use mathlib.Core.Path.{_≡_}
 use mathlib.Core.Bool.{Bool, true, false}

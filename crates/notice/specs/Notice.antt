@@ -1,4 +1,4 @@
--- What a program says where its input or its output fails it.
+-- What a program says where its input or its output fails: `program.failure`.
 use Prim.Native.Nat.{ℕ}
 use mathlib.Core.Path.{_≡_}
 use mathlib.Core.List.{List, [], _∷_, _++_}

@@ -1,5 +1,5 @@
-// What a program does where its input or its output fails it: it counts the bytes that were written, and says on
-// standard error what happened.
+// What a program does where its input or its output fails (`program.failure`): it counts the answers that were written
+// whole, and says on standard error what happened. It knows bytes and file descriptors.
 ghost use mathlib.Core.Path.{_≡_};
 ghost use mathlib.Core.List.{_++_};
 ghost use Prim.Native.Nat.{_+_, _/_, _%_, _^_, _≤_};

@@ -9,7 +9,7 @@ droppedFull = 1
 abbrev pub droppedReadOnly : ℕ
 droppedReadOnly = 2
 
--- a read of an empty CMDR, SDI or IBI
+-- the queue that was read is empty
 abbrev pub empty : ℕ
 empty = 3
 
@@ -37,7 +37,7 @@ notInThisMode = 8
 abbrev pub noCommand : ℕ
 noCommand = 9
 
--- not for this kind of transfer or moment
+-- not with this transfer, or not now
 abbrev pub notThisKind : ℕ
 notThisKind = 10
 

@@ -6,7 +6,7 @@ pub const DROPPED_FULL: u32 = 1;
 // A write to a read-only register was dropped.
 pub const DROPPED_READ_ONLY: u32 = 2;
 
-// A read of an empty CMDR, SDI or IBI.
+// The queue that was read is empty.
 pub const EMPTY: u32 = 3;
 
 // No register there.
@@ -27,7 +27,7 @@ pub const NOT_IN_THIS_MODE: u32 = 8;
 // No whole command waits.
 pub const NO_COMMAND: u32 = 9;
 
-// Not for this kind of transfer or moment.
+// Not with this transfer, or not now.
 pub const NOT_THIS_KIND: u32 = 10;
 
 // Commanded length reached.

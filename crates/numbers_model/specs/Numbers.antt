@@ -1,5 +1,5 @@
--- Demand 1, of paper 00: every call, with any input, ends with one number of its own. Each call's numbers, in the order in which they are
--- tested, and what is proved of them. docs/ANSWERS.md has the same table, and a test holds it to this one.
+-- Demand 1 of paper 00 (`answer.every`): each call's numbers, in the order in which they are tested, and what is proved of them.
+-- docs/ANSWERS.md has the same table, and a test holds it to this one.
 use Prim.Native.Nat.{ℕ}
 use mathlib.Core.Path.{_≡_}
 use mathlib.Core.Bool.{Bool, true, false, cond, _||_}
@@ -17,8 +17,8 @@ use Rattle.model.specs.Engine.{step}
 use Rattle.model.specs.Rings.{Controller, viewRings, guardRings, rings}
 
 -- ── The table ─────────────────────────────────────────────────────────────────────────────────────────────────
--- Refusals, in 01's order ('Numbers that come back', 'Bus events'): bank and store first, then what is out of range, then the call's own
--- list. 02 §3 puts 6 behind 4 in the list of writes, and 13 behind 18 in that of every event.
+-- refusals: `answer.bank` first; for accesses `access.order`; for events `answer.range`, then 13 by `burst.output`, then the event's own
+-- tests
 abbrev pub numbers : Call → List ℕ
 numbers (Read o) = number.notWellFormed ∷ number.storeLength ∷ number.noRegister ∷ number.empty ∷ []
 numbers (Write o v) = number.notWellFormed ∷ number.storeLength ∷ number.noRegister ∷ number.transferOpen ∷ number.droppedReadOnly ∷ number.heldInReset ∷ number.droppedFull ∷ []
@@ -61,14 +61,14 @@ tested (b ⇒ n ∣ d) = n ∷ tested d
 
 -- ── The demand ────────────────────────────────────────────────────────────────────────────────────────────────
 pub record Answered (l : Controller) (c : Call) : Type 0 where
-  -- the tests are made in the table's order; the first that holds gives its number (`first`)
+  -- `answer.order`: the tests are made in the table's order, and the first that holds gives its number (`first`)
   pub ordered : inOrder (tested (guardRings l (decide (viewRings l) c))) (numbers c) ≡ true
   -- the call ends with a number of the table
   pub numbered : among (step rings l c .answer .number) (ends c ++ numbers c) ≡ true
-  -- a refusal changes nothing, and its value is 0
+  -- `answer.refusal`: a refusal changes nothing, and its value is 0
   pub unchanged : among (step rings l c .answer .number) (ends c) ≡ false → (step rings l c .next ≡ l) × (step rings l c .answer .value ≡ 0)
 
--- demand 1 of 00, of every call and of set-up
+-- of every call, and of set-up (`set-up.fresh`, `set-up.refused`)
 pub record Demand1 : Type 0 where
   pub calls : (l : Controller) (c : Call) → Answered l c
   pub setUps : (caps marks : Sizes) (id : ℕ) → let a = setUp caps marks id .answer in (among (a .number) (0 ∷ number.setUpOutOfRange ∷ []) ≡ true) × (a .value ≡ 0)

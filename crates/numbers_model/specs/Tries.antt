@@ -1,4 +1,4 @@
--- Each number of the table is given: an input for every one.
+-- Each number of the table is given for some input (`answer.every`): a try for every one.
 use Prim.Native.Nat.{ℕ}
 use mathlib.Core.Path.{_≡_}
 use mathlib.Core.List.{List, [], _∷_, _++_, map}

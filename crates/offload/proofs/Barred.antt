@@ -1,4 +1,4 @@
--- Events that an open burst bars: a transfer is open that is no address assignment.
+-- Events that an open burst refuses (`burst.events`): a transfer is open that is no address assignment.
 use Prim.Native.Nat.{ℕ}
 use mathlib.Core.Path.{_≡_, refl, sym, _∙_}
 use mathlib.Core.Bool.{Bool, true, false, cond, true≢false}

@@ -1,4 +1,5 @@
-// Events in an open burst, as decisions: the three that run it, and those that it bars.
+// Every event in an open burst, as a decision: the three that run it, of `burst`, and those that it refuses
+// (`burst.events`).
 ghost use mathlib.Core.Path.{_≡_};
 ghost use mathlib.Core.Bool.{true, false, cond};
 ghost use mathlib.Core.List.{List};
@@ -16,8 +17,8 @@ use bank::State;
 use effect::Effect;
 use model::Call;
 
-// An event that an open burst bars: 13 where the output is shorter than the reads, else 5 in reset, else its own number.
-// Small, so that every caller has it inlined: an effect that one callee writes through a pointer stays in memory.
+// An event that an open burst refuses: with 13 where the output is too short (`burst.output`), else 5 in reset, else
+// `n`. Small, so that it is inlined everywhere: an effect that a callee writes through a pointer stays in memory.
 pub fn bar(st: State, lacks: bool, n: u32) -> Effect
     ensures { λ e. ⌜ ((t : Tables) (f : Fronts) → (let v = seen st t f in effectOf e t ≡ (unchanged v withNumber cond lacks 13 (cond (st .control .held) 5 n)))) ⌝ }
 {
@@ -31,7 +32,7 @@ pub fn bar(st: State, lacks: bool, n: u32) -> Effect
     )
 }
 
-// Any event that passes 18. An access is not decided here: what is given for one is not promised.
+// Any event that passes 18. What is given for an access is not promised: none comes here.
 pub fn event(
     st: State,
     flags: &[u8; 128],

@@ -1,4 +1,5 @@
-// Payload bytes sent and received outside a burst, as decisions.
+// Sends and receives outside a burst, as decisions (`send.tests`, `send.byte`, `receive.tests`, `receive.byte`). It
+// knows the state, and of SDO its first word.
 ghost use mathlib.Core.Path.{_≡_};
 ghost use Prim.Native.Nat.{ℕ};
 ghost use mathlib.Core.Bool.{true};
@@ -12,7 +13,7 @@ use bank::State;
 use effect::Effect;
 use effect::Op;
 
-// The number of a send, 0 where none of its tests holds.
+// The number of a send, 0 where none of its tests holds (`send.tests`).
 fn send_number(st: State) -> u32
     ensures { λ n. ⌜ ((t : Tables) (f : Fronts) → n ≡ number (send (seen st t f))) ⌝ }
 {
@@ -26,7 +27,7 @@ fn send_number(st: State) -> u32
     )
 }
 
-// A byte sent: the first of a new SDO word, or the next of the part word. `word` is the first of SDO.
+// A byte sent (`send.byte`): the first of a new SDO word, or the next of the part word. `word` is the first of SDO.
 pub fn send(st: State, word: u32) -> Effect
     ensures { λ e. ⌜ ((t : Tables) (f : Fronts) → word ≡ f .sdo .first → effectOf e t ≡ verdict send (seen st t f)) ⌝ }
 {
@@ -45,7 +46,7 @@ pub fn send(st: State, word: u32) -> Effect
     effect::done(st, w / 0x1000000 % 256, 0, g, c, Phase::Writing(next), o)
 }
 
-// The number of a byte received, 0 where none of its tests holds.
+// The number of a receive, 0 where none of its tests holds (`receive.tests`).
 fn receive_number(st: State) -> u32
     ensures { λ n. ⌜ ((t : Tables) (f : Fronts) (byte : ℕ) → n ≡ number (receive (seen st t f) byte)) ⌝ }
 {
@@ -59,7 +60,7 @@ fn receive_number(st: State) -> u32
     )
 }
 
-// A byte received: the fourth of a word pushes the word to SDI.
+// A byte received (`receive.byte`): with the fourth of a word, the word goes to SDI.
 pub fn receive(st: State, byte: u8) -> Effect
     requires { ⌜ phaseOk (st .phase) ≡ true ⌝ }
     ensures { λ e. ⌜ ((t : Tables) (f : Fronts) → effectOf e t ≡ verdict (λ v. receive v byte) (seen st t f)) ⌝ }

@@ -1,4 +1,5 @@
-// What bytes sent and received share, outside a burst and inside: their tests, their count, and their place in a word.
+// What sends and receives share, in a burst and outside: the tests 5, 7, 20, 10 and 11 (`send.tests`, `receive.tests`),
+// the count of bytes moved, and the place of a byte in its word (`payload.order`).
 ghost use mathlib.Core.Path.{_≡_};
 ghost use Prim.Native.Nat.{_+_, _-_, _*_, _%_, _^_, _<_, _≤_};
 ghost use Rattle.model.specs.Calls.{advanced};
@@ -6,7 +7,7 @@ ghost use Rattle.payload_bytes.specs.Bytes.{byteNumber};
 use bank::State;
 use bank::Transfer;
 
-// One byte more has moved, and the part word is `w`.
+// The transfer with one byte more moved, and `w` as its part word.
 pub fn advance(t: Transfer, w: u32) -> Transfer
     requires { ⌜ t .moved .0 < t .length .0 ⌝ }
     ensures { λ r. ⌜ r ≡ advanced t w ⌝ }
@@ -32,7 +33,7 @@ pub fn byte_number(st: State, apt: bool, last: u32) -> u32
     effect::while_open(st.control.held, idle, n)
 }
 
-// The weight of a byte in its word: the first has the highest.
+// The weight of a byte in its word, the first having the highest (`payload.order`).
 pub fn weight(moved: u32) -> u32
     ensures { λ r. ⌜ (r ≡ 2 ^ (24 - 8 * (moved % 4))) × (r ≤ 0x1000000) × (0 < r) ⌝ }
 {

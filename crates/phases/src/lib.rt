@@ -1,4 +1,4 @@
-// What a phase says of the open transfer.
+// What a phase says of the open transfer: specs/Phases.antt in code.
 ghost use mathlib.Core.Path.{_≡_};
 ghost use Prim.Native.Nat.{_<_};
 ghost use Rattle.bank.specs.declared.Phase.the-variants.{Idle};
@@ -153,7 +153,7 @@ pub fn transfer_of(p: Phase) -> Transfer
     }
 }
 
-// Whether the transfer is for one device, and that was not attached at the start.
+// Whether the transfer has a device, and that was not attached when it opened (`start.attached`).
 pub fn is_unattached(p: Phase) -> bool
     ensures { λ b. ⌜ b ≡ unattached p ⌝ }
 {
@@ -162,7 +162,7 @@ pub fn is_unattached(p: Phase) -> bool
     !is_assigning(p) & !is_broadcast(k) & !t.attached
 }
 
-// The most bytes that may move.
+// The most bytes that the transfer may have moved (`formed.moved`).
 pub fn limit_of(p: Phase) -> Bytes
     ensures { λ n. ⌜ n .0 ≡ limit p ⌝ }
 {
@@ -172,7 +172,7 @@ pub fn limit_of(p: Phase) -> Bytes
     Bytes(most)
 }
 
-// The bytes that the part word holds.
+// The bytes that the part word has outside a burst (`formed.part`).
 pub fn part_bytes(p: Phase) -> Bytes
     ensures { λ n. ⌜ (n .0 ≡ partBytes p) × (n .0 < 4) ⌝ }
 {

@@ -1,5 +1,5 @@
-// Replay of a section of a trace, 02 §1: by value, and on a bank that is changed where it lies. A replay lends every call
-// an empty output: no record names the trigger.
+// Replay of a section of a trace file (`replay.calls`, `replay.tells`): by value, and on a bank that is changed where
+// it lies (`call.in-place`). Every call is lent an empty output (`burst.replay`).
 ghost use mathlib.Core.Path.{_≡_};
 ghost use mathlib.Core.List.{[]};
 ghost use Rattle.answer.specs.Given.{controller};

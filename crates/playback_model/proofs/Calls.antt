@@ -1,4 +1,4 @@
--- A replay makes the calls of its records, one by one.
+-- `replay.calls`: a replay makes the calls of its records, one by one.
 use Prim.Native.Nat.{ℕ, suc, _+_, _/_, _≤_}
 use native.Mathlib.Omega.{arith}
 use native.Mathlib.Decide.{decLt}
@@ -43,7 +43,7 @@ unfolding EmptyIsLent lentOn lending
 empty-is-lent [] l e = refl
 empty-is-lent (k ∷ ks) l e = let s = step rings l k in ap₂ (λ o rest. record { output = o; call = k } ∷ rest) e (empty-is-lent ks (s .next) (sym (empty (s .next .output) (same-output l k ∙ ap length e))))
 
--- as many as are stated, or all
+-- as many as the limit allows, or all
 some-of : (ks : List Call) (limit n : ℕ) → n ≡ length ks → (take (cond (ltb limit n) limit n) ks ≡ take limit ks) × (cond (ltb limit n) limit n ≤ length ks)
 some-of ks limit n e = elim (decLt limit n) [
   | yes h ↦ (let t = lt-ltb limit n h in (rw t, rw t (let z : limit ≤ length ks = omega (arith, e, h) in z)))

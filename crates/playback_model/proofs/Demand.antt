@@ -1,4 +1,4 @@
--- Demand 3 of every replay on a fresh bank: it is a list of calls.
+-- `demand.replays`: demand 3 of every replay on a fresh bank, which is a list of calls.
 use mathlib.Core.Path.{refl, ap, sym, subst, _∙_}
 use mathlib.Core.List.{[]}
 use Rattle.model.specs.Engine.{lending, final}

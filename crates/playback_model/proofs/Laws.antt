@@ -1,4 +1,4 @@
--- A replay by its look-up.
+-- A replay by the number of its look-up.
 use Prim.Native.Nat.{ℕ}
 use mathlib.Core.Path.{_≡_, ap, sym, _∙_}
 use mathlib.Core.Bool.{cond}

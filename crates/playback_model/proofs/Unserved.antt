@@ -1,4 +1,4 @@
--- An empty output does not serve an open burst that has reads.
+-- `burst.replay`: an empty output is too short for an open burst that has reads.
 use Prim.Native.Nat.{ℕ, _<_}
 use mathlib.Core.Path.{_≡_}
 use mathlib.Core.Bool.{true, false≢true}

@@ -1,4 +1,5 @@
--- What a replay of any file does: the calls of its records, up to the first wrong one, one by one; on a bank that is not well formed too.
+-- What a replay of any file does: the calls of its records, up to the first wrong one, one by one; and what it tells on a bank that is not
+-- well formed.
 use Prim.Native.Nat.{ℕ}
 use mathlib.Core.Path.{_≡_}
 use mathlib.Core.Bool.{false, cond}
@@ -18,7 +19,7 @@ use Rattle.playback_model.specs.declared.Told.{Told}
 use Rattle.playback_model.specs.Replay.{replayOf}
 use Rattle.playback_model.specs.Laws.{made}
 
--- what the records name that a replay may look at: no more than stated, and none of a file that is refused, whose section is empty
+-- what the records name that a replay may look at: at most `limit` of them, and none of a file that is refused, whose section is empty
 unfoldable pub wanted : List ℕ → ℕ → ℕ → List Parsed
 wanted file i limit = let bytes = section file i in namedFrom (within limit bytes) bytes 0
 
@@ -26,11 +27,11 @@ wanted file i limit = let bytes = section file i in namedFrom (within limit byte
 abbrev pub doneIn : List ℕ → ℕ → ℕ → List Call
 doneIn file i limit = callsBefore (wanted file i limit)
 
--- its number: 24, 25 and 26 come first, then 27 where a wrong record is met
+-- its number: 24, 25 and 26 first, then 27 where a wrong record is met
 abbrev pub numberIn : List ℕ → ℕ → ℕ → ℕ
 numberIn file i limit = let n = lookNumber file i in cond (eqb n 0) (cond (anyWrong (wanted file i limit)) number.wrongRecord 0) n
 
--- whatever the bytes are, and on any bank
+-- `replay.calls`, `replay.tells`, of any bytes, and on any bank
 unfoldable pub EveryReplay : Type 0
 EveryReplay = (file : List ℕ) (i limit : ℕ) (l : Controller) → replayOf file i limit l ≡ made (numberIn file i limit) (doneIn file i limit) l
 
@@ -40,6 +41,6 @@ all21 file i limit =
     let n = length (doneIn file i limit) in
     record { number = numberIn file i limit; count = n; answer = record { value = 0; number = cond (eqb n 0) 0 number.notWellFormed } }
 
--- a bank that is not well formed: no record changes a thing, and none stops the replay
+-- on a bank that is not well formed no record changes anything, and each that is looked at counts as done (`answer.bank`)
 unfoldable pub IllFormedReplay : Type 0
 IllFormedReplay = (file : List ℕ) (i limit : ℕ) (l : Controller) → wellFormed (l .bank) ≡ false → replayOf file i limit l ≡ record { told = all21 file i limit; left = l }

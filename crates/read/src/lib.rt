@@ -1,4 +1,5 @@
-// Register reads, as decisions. `word` is the first of the queue that the register takes from: see `takenBy`.
+// Register reads, as decisions: which register goes to which row of `read_rows`. `word` is the first of the queue that
+// the register takes from: see `takenBy`.
 ghost use mathlib.Core.Path.{_≡_};
 ghost use mathlib.Core.List.{List};
 ghost use Prim.Native.Nat.{ℕ};
@@ -11,7 +12,7 @@ use effect::Effect;
 use read_rows::show;
 use registers::Register;
 
-// A read of a register. Those that are only written give 0.
+// A read of a register: 4 where there is none (`map.offsets`); one that is only written gives 0 (`map.write-only`).
 pub fn read(
     r: Register,
     st: State,

@@ -1,4 +1,4 @@
--- Looking an offset up in the map.
+-- The look-up of an offset in the list of registers, case by case, for the `match` of the code.
 use Prim.Native.Nat.{ℕ, _-_, _/_, _%_, _<_, _≤_}
 use native.Mathlib.Omega.{arith}
 use mathlib.Core.Path.{_≡_, refl}

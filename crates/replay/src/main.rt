@@ -1,14 +1,14 @@
-// 02 §1's replay: a trace from standard input, on the session's bank; a line for each record to standard output, and one
-// for 24, 25 or 27. It reads and writes in pieces, and its buffers are within 64 KiB. Where input or output fails it, it
-// says so on standard error; what could not be read counts as not there.
+// The program `replay` (`replay.program`, `replay.ends`, `replay.length`): a trace from standard input on the session's
+// bank, and lines to standard output, in pieces, with buffers of 64 KiB at most. Where input or output fails, it says
+// so on standard error (`program.failure`); what could not be read counts as not there.
 ghost use mathlib.Core.Path.{_≡_};
 ghost use Prim.Native.Nat.{_≤_, _<_};
 ghost use lib.ListN.{length};
 use bank::Bank;
 use stream_model::Stage;
 
-// The bank, what is to come, and how many bytes at the front of the buffer were not used; how many answers were written;
-// whether there may be more to read; whether the input could be read, and all output be written.
+// The bank, what is to come, and how many bytes at the front of the buffer were not used; how many answers were
+// written; whether there may be more to read; whether the input could be read, and all output be written.
 struct Went {
     bank: Bank,
     stage: Stage,
@@ -40,7 +40,7 @@ fn output_failed(answers: u64) {
     );
 }
 
-// More of the input, behind what is there.
+// More of the input, read in behind the bytes held.
 fn fill(buf: &mut [u8], held: usize) -> Filled
     requires { ⌜ held ≤ length (now buf) ⌝ }
     ensures { λ r. ⌜ (held ≤ r .have) × (r .have ≤ length (now (buf .exit))) ⌝ }

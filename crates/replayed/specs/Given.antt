@@ -1,4 +1,4 @@
--- What the code of a replay gives, as a replay of the definitions.
+-- Contracts of replays: what code gives, as a replay of the definitions.
 use Prim.Native.Nat.{ℕ}
 use mathlib.Core.List.{List, []}
 use Rattle.bank.specs.declared.Bank.{Bank}
@@ -9,14 +9,14 @@ use Rattle.playback_model.specs.Replay.{Replay}
 use Rattle.replayed.specs.declared.Reached.{Reached}
 use Rattle.replayed.specs.declared.Replayed.{Replayed}
 
--- over the tables, the store and the output that it left
+-- a result, with the tables, the store and the output that the code left
 abbrev pub reached : Reached → Tables → List ℕ → Replay
 reached r t s = record { told = r .told; left = controller (bankWith (r .state) (r .heads) t) s (t .output) }
 
 abbrev pub replayedWith : Replayed → List ℕ → List ℕ → Replay
 replayedWith r s o = record { told = r .told; left = controller (r .bank) s o }
 
--- the same with no output: an empty one stays empty
+-- the same with an empty output, which stays empty
 abbrev pub replayedOut : Replayed → List ℕ → Replay
 replayedOut r s = replayedWith r s []
 

@@ -1,5 +1,5 @@
-// What the code of a replay gives, 02 §1: what it tells, with the state or the bank that it left. Its two ways to fail
-// stand here, since they make no call: at a wrong record, and refused as a whole.
+// What the code of a replay gives: what it tells (`replay.tells`), with the state or the bank that it left; and the two
+// ways in which it ends early, at a wrong record and refused as a whole. It knows no record and makes no call.
 ghost use mathlib.Core.Path.{_≡_};
 ghost use mathlib.Core.List.{List, []};
 ghost use Prim.Native.Nat.{ℕ};
@@ -26,7 +26,7 @@ pub struct Reached {
     pub told: Told,
 }
 
-// What is told of some records, and the state that they left.
+// What is told of some records, with the state that they left.
 pub fn reach(s: State, h: Heads, number: u32, count: usize, a: Answer) -> Reached
     ensures { λ r. ⌜ ((t : Tables) (st : List ℕ) → reached r t st ≡ telling number count a (controller (bankWith s h t) st (t .output))) ⌝ }
 {
@@ -42,14 +42,15 @@ pub fn reach(s: State, h: Heads, number: u32, count: usize, a: Answer) -> Reache
     }
 }
 
-// A wrong record stops a replay with those before it done: so many, and the answer of the last.
+// A replay that ends at a wrong record, with 27 (`replay.calls`): `done` records were done before it, and `a` is the
+// last answer.
 pub fn stopped(s: State, h: Heads, done: usize, a: Answer) -> Reached
     ensures { λ r. ⌜ ((t : Tables) (st : List ℕ) → reached r t st ≡ wrong (telling 0 done a (controller (bankWith s h t) st (t .output)))) ⌝ }
 {
     reach(s, h, number::WRONG_RECORD, done, a)
 }
 
-// A bank of a state and its tables, with what was told.
+// The bank that is put together from a state and its tables, with what was told.
 pub fn out_of(y: Reached, flags: [u8; 128], commands: [u32; 16], payloads: [u32; 16]) -> Replayed
     ensures { λ r. ⌜ ((s o : List ℕ) → replayedWith r s o ≡ reached y (tables flags commands payloads o) s) ⌝ }
 {

@@ -20,7 +20,7 @@ use Rattle.rings.proofs.Laws.{standing}
 use Rattle.ring_moves.specs.declared.Moved.{Moved}
 use Rattle.ring_moves.specs.Moved.{movedTo}
 
--- what an operation asks, once it is known
+-- what an operation asks of its queue, where it is known which one it is
 pub told : (o p : Op) (cap level : ℕ) → o ≡ p → Fits (opOf o) cap level → Fits (opOf p) cap level
 told o p cap level e f = subst (λ (x : Op). Fits (opOf x) cap level) e f
 

@@ -1,4 +1,4 @@
--- Levels and heads of five rings.
+-- Levels and heads of five rings, as the code of `settle` has them.
 use Rattle.bank.specs.Queues.{Queues, levelsOf, headsOf}
 use Rattle.ring_moves.specs.declared.Moved.{Moved}
 

@@ -1,4 +1,5 @@
-// What operations do to the five rings of a lent store: once for every call.
+// What the operations of an effect do to the five rings of a lent store (`ring.push`, `ring.take`, `ring.clear`), once
+// for every call.
 ghost use mathlib.Core.Path.{_≡_};
 ghost use Prim.Native.Nat.{_+_, _≤_};
 ghost use lib.ListN.{length};
@@ -17,12 +18,13 @@ use effect::Ops;
 use ring::Ring;
 use ring::Words;
 
-// Levels and heads, after all five.
+// Levels and heads after the operations on all five queues.
 pub struct Moved {
     pub levels: Counts,
     pub heads: Heads,
 }
 
+// Two words pushed, one behind the other.
 fn push_two(r: Ring, base: usize, store: &mut [u32], v: u32, w: u32) -> Ring
     requires { ⌜ (Valid r) × (r .level .0 + 2 ≤ r .cap .0) × (base + r .cap .0 ≤ length (now store)) ⌝ }
     ensures { λ p. ⌜ (p ≡ onRing (push2 v w) r) × (now (store .exit) ≡ onStore (push2 v w) (area r base) (now (store .entry))) ⌝ }
@@ -31,7 +33,7 @@ fn push_two(r: Ring, base: usize, store: &mut [u32], v: u32, w: u32) -> Ring
     ring::push(one, base, store, w)
 }
 
-// One operation on one queue.
+// One operation on one queue, whose area begins at `base`.
 fn apply(o: Op, r: Ring, base: usize, store: &mut [u32]) -> Ring
     requires { ⌜ (Valid r) × (Fits (opOf o) (r .cap .0) (r .level .0)) × (base + r .cap .0 ≤ length (now store)) ⌝ }
     ensures { λ p. ⌜ (p ≡ onRing (opOf o) r) × (now (store .exit) ≡ onStore (opOf o) (area r base) (now (store .entry))) × (length (now (store .exit)) ≡ length (now (store .entry))) ⌝ }
@@ -45,6 +47,7 @@ fn apply(o: Op, r: Ring, base: usize, store: &mut [u32]) -> Ring
     }
 }
 
+// Levels and heads out of five rings.
 fn gather(cmd: Ring, cmdr: Ring, sdo: Ring, sdi: Ring, ibi: Ring) -> Moved
     ensures { λ m. ⌜ m ≡ movedTo (record { cmd = cmd; cmdr = cmdr; sdo = sdo; sdi = sdi; ibi = ibi }) ⌝ }
 {
@@ -68,7 +71,7 @@ fn gather(cmd: Ring, cmdr: Ring, sdo: Ring, sdi: Ring, ibi: Ring) -> Moved
     }
 }
 
-// All five.
+// The operations on all five queues.
 fn move_all(o: Ops, k: Counts, l: Counts, h: Heads, store: &mut [u32]) -> Moved
     requires { ⌜ (Ready (queuesOf k l h) (now store)) × (AllFit (fiveOf o) (viewQueues (queuesOf k l h) (now store))) ⌝ }
     ensures { λ m. ⌜ (m ≡ movedTo (onRings (fiveOf o) (queuesOf k l h))) × (now (store .exit) ≡ onStores (fiveOf o) (areas (queuesOf k l h)) (now (store .entry))) ⌝ }
@@ -106,7 +109,7 @@ fn move_all(o: Ops, k: Counts, l: Counts, h: Heads, store: &mut [u32]) -> Moved
     gather(cmd, cmdr, sdo, sdi, ibi)
 }
 
-// All five, where any is touched.
+// The operations on all five queues where `any` holds; else nothing moves.
 pub fn move_any(o: Ops, k: Counts, l: Counts, h: Heads, store: &mut [u32]) -> Moved
     requires { ⌜ (Ready (queuesOf k l h) (now store)) × (AllFit (opsOf o) (viewQueues (queuesOf k l h) (now store))) ⌝ }
     ensures { λ m. ⌜ (m ≡ movedTo (onRings (opsOf o) (queuesOf k l h))) × (now (store .exit) ≡ onStores (opsOf o) (areas (queuesOf k l h)) (now (store .entry))) ⌝ }

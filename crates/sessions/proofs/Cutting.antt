@@ -1,4 +1,4 @@
--- A session's bytes may be cut anywhere.
+-- `session.pieces`: a session's bytes may be cut anywhere.
 use Prim.Native.Nat.{ℕ, suc, _+_, _<_}
 use mathlib.Core.Path.{_≡_, refl, ap, sym, _∙_}
 use mathlib.Core.Bool.{Bool, true, false, cond}

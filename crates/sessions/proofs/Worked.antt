@@ -1,4 +1,4 @@
--- 01's session, as text: its ten lines print its right column.
+-- The worked session of 01, as text: its ten lines print the answers beside them.
 use mathlib.Core.Path.{_≡_, refl}
 use mathlib.Core.List.{[], _∷_}
 use lib.Count.{ones}

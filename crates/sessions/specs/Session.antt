@@ -1,4 +1,4 @@
--- A session of 01: bytes come in, lines are told apart, calls made, answers printed.
+-- A session, 01, 'A session': bytes come in, lines are told apart, calls made, answers printed.
 use Prim.Native.Nat.{ℕ}
 use mathlib.Core.Bool.{cond}
 use mathlib.Core.List.{List, [], _++_, foldl}
@@ -28,7 +28,7 @@ told l t = record { controller = l; text = t }
 abbrev pub answerLine : Answer → List ℕ
 answerLine a = lineOf (a .value) (a .number)
 
--- a call is made and its answer printed; "other lines are skipped"
+-- `session.answers`: the call of a line is made and its answer printed; a line that names none is skipped (`session.lines`)
 abbrev pub ranOf : Controller → Parsed → Told
 ranOf l Skipped = told l []
 ranOf l (Named c) = let s = step rings l c in told (s .next) (answerLine (s .answer))
@@ -53,14 +53,15 @@ endedSession r s o out = session (controller (r .bank) s o) fresh (take (r .coun
 abbrev pub fedSession : Fed → List ℕ → List ℕ → List ℕ → Session
 fedSession r s o out = session (controller (r .bank) s o) (r .line) (take (r .count) out)
 
--- the end of a line
+-- a line ends: its call is made, and a new line begins
 abbrev pub lineEnd : Session → Session
 lineEnd s = let t = ranOf (s .controller) (callOf (s .line)) in session (t .controller) fresh (s .text ++ t .text)
 
--- "a line ends at a newline or the end of the input"
+-- `session.lines`: a newline closes a line; the end of the input does so in `printed`
 abbrev pub fedByte : Session → ℕ → Session
 fedByte s b = cond (eqb b 0x0a) (lineEnd s) (session (s .controller) (eatOf (s .line) b) (s .text))
 
+-- the bytes of a piece, one after another (`session.pieces`)
 unfoldable pub fed : Session → List ℕ → Session
 fed = foldl fedByte
 

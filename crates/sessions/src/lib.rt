@@ -1,5 +1,6 @@
-// A session of 01: bytes in pieces of any length, the lines in them, the calls that these name, and the answers as text.
-// `output` is the output of words that is lent to every call, `out` takes the text.
+// A session (`session.lines`, `session.answers`): bytes in pieces of any length, the lines in them, the calls that
+// these name, and the answers as text. It knows no file and no program. `output` is what is lent to every call, `out`
+// takes the text.
 ghost use mathlib.Core.Path.{_≡_};
 ghost use mathlib.Core.List.{List, []};
 ghost use Prim.Native.Nat.{ℕ, _+_, _*_, _≤_};
@@ -34,7 +35,7 @@ fn serve(b: Bank, store: &mut [u32], output: &mut [u32], c: Call) -> Ran
     }
 }
 
-// No call: the bank as it was, nothing printed.
+// A line that names no call: the bank as it was, nothing printed.
 fn silent(b: Bank) -> Ran
     ensures { λ r. ⌜ ((s o : List ℕ) → ranTold r s o ≡ ranOf (controller b s o) Skipped) ⌝ }
 {
@@ -61,7 +62,7 @@ pub struct Ended {
     pub count: usize,
 }
 
-// A line ends, at a newline or at the end of the input: a layer, no interface.
+// A line is closed, by a newline or by the end of the input (`session.lines`): a layer, no interface.
 pub fn end_line(
     b: Bank,
     store: &mut [u32],

@@ -1,4 +1,5 @@
-// What an effect does to rings in a lent store and to lent tables: once for every call.
+// An effect settled in rings in a lent store and in lent tables, once for every call. It knows effects, and not which
+// call gave one.
 ghost use mathlib.Core.Path.{_≡_};
 ghost use Rattle.bank.specs.Queues.{queuesOf};
 ghost use Rattle.bank.specs.Ready.{Ready};
@@ -12,7 +13,7 @@ use bank::Heads;
 use bank::State;
 use effect::Effect;
 
-// The effect, settled.
+// An effect settled: queues moved, table entry stored, and the state and heads after it.
 pub fn settle(
     st: State,
     h: Heads,

@@ -1,4 +1,5 @@
-// The start of a transfer, as a decision: the command that CMD shows, and the transfer that it opens.
+// The start of a transfer, as a decision (`start.tests`, `start.opens`), and the transfer that a command opens, which
+// bursts use too. It knows command words, the state, and the flags of one device.
 ghost use mathlib.Core.Path.{_≡_};
 ghost use mathlib.Core.Bool.{_||_};
 ghost use Rattle.bank.specs.Phases.{broadcast};
@@ -17,7 +18,7 @@ use effect::Effect;
 use effect::Op;
 use ring::Bytes;
 
-// The kind of the command with first word `w` and, where it has two, second word `x`.
+// The kind of the command with first word `w` and, where it has two, second word `x` (`command.ccc`).
 fn kind_of(two: bool, w: u32, x: u32) -> Kind
     ensures { λ k. ⌜ k ≡ kindOf (commandOf two w x) ⌝ }
 {
@@ -30,13 +31,14 @@ fn kind_of(two: bool, w: u32, x: u32) -> Kind
     Kind::Broadcast
 }
 
+// Whether the command is ENTDAA (`command.entdaa`).
 fn is_entdaa(two: bool, w: u32, x: u32) -> bool
     ensures { λ r. ⌜ r ≡ isEntdaa (commandOf two w x) ⌝ }
 {
     two & (x % 256 == 7)
 }
 
-// The transfer that a command opens.
+// The transfer that a command opens (`command.word`).
 fn opened_by(two: bool, w: u32, x: u32, attached: bool) -> Transfer
     ensures { λ t. ⌜ t ≡ opened (commandOf two w x) attached ⌝ }
 {
@@ -52,6 +54,7 @@ fn opened_by(two: bool, w: u32, x: u32, attached: bool) -> Transfer
     }
 }
 
+// The phase that a command begins: ENTDAA, a read or a write.
 fn begun_by(two: bool, w: u32, x: u32, attached: bool) -> Phase
     ensures { λ p. ⌜ p ≡ begun (commandOf two w x) attached ⌝ }
 {
@@ -65,14 +68,14 @@ fn begun_by(two: bool, w: u32, x: u32, attached: bool) -> Phase
     Phase::Writing(t)
 }
 
-// Whether the device of a command is attached now; a broadcast has none.
+// Whether the device of a command is attached now (`start.attached`); a broadcast has none (`command.broadcast`).
 fn is_attached(k: Kind, flags: u8) -> bool
     ensures { λ r. ⌜ r ≡ (broadcast k || bit 0 flags) ⌝ }
 {
     phases::is_broadcast(k) | bank::byte_low_bit(flags)
 }
 
-// The transfer that a private command opens: its device may be attached now.
+// The phase that a private command begins, with the flags of its device now.
 pub fn private_phase(w: u32, flags: u8) -> Phase
     ensures { λ p. ⌜ p ≡ begun (Single w) (broadcast (kindOf (Single w)) || bit 0 flags) ⌝ }
 {
@@ -81,7 +84,7 @@ pub fn private_phase(w: u32, flags: u8) -> Phase
     begun_by(false, w, 0, a)
 }
 
-// The number of a start, 0 where none of its tests holds: `w` and `x` are the first words of CMD.
+// The number of a start, 0 where none of its tests holds (`start.tests`): `w` and `x` are the first words of CMD.
 fn start_number(st: State, w: u32, x: u32) -> u32
     ensures { λ n. ⌜ ((t : Tables) (f : Fronts) → w ≡ f .cmd .first → x ≡ f .cmd .second → n ≡ number (start (seen st t f))) ⌝ }
 {
@@ -97,7 +100,7 @@ fn start_number(st: State, w: u32, x: u32) -> u32
     effect::while_idle(st.control.held, idle, n)
 }
 
-// The first command of CMD starts: `w` and `x` are the first words of CMD, `flags` those of the device that `w` names.
+// A start (`start.opens`): `w` and `x` are the first words of CMD, `flags` those of the device that `w` names.
 pub fn start(st: State, w: u32, x: u32, flags: u8) -> Effect
     ensures { λ e. ⌜ ((t : Tables) (f : Fronts) → w ≡ f .cmd .first → x ≡ f .cmd .second → flags ≡ flagsOf w t → effectOf e t ≡ verdict start (seen st t f)) ⌝ }
 {

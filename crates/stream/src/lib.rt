@@ -1,5 +1,5 @@
-// Replay of a trace that comes in pieces, 02 §1: bytes in, a line for each record out. `out` takes the text; its bytes past
-// the text are left free.
+// Replay of a trace that comes in pieces (`replay.program`): bytes in, a line for each record out. It knows pieces and
+// what is still to come, and no program. `out` takes the text; its bytes past the text are left free.
 ghost use mathlib.Core.Path.{_≡_};
 ghost use mathlib.Core.List.{[]};
 ghost use Prim.Native.Nat.{_+_, _≤_, _<_};

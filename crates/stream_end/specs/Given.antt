@@ -1,4 +1,4 @@
--- What the code of a piece gives, over the store and the text that it left. An empty output stays empty.
+-- Contracts of pieces: what code gives, with the store and the text that it left, as the definitions have it. An empty output stays empty.
 use Prim.Native.Nat.{ℕ}
 use mathlib.Core.List.{List, []}
 use lib.ListN.{take}

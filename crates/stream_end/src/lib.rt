@@ -1,5 +1,5 @@
-// How the replay of a trace that comes in pieces ends, 02 §1: with a number of its own, or with its input. `out` takes the
-// text; its bytes past the text are left free.
+// How the replay of a trace that comes in pieces ends (`replay.ends`): with a number of its own, or with its input. It
+// knows what is still to come, and no record. `out` takes the text; its bytes past the text are left free.
 ghost use mathlib.Core.Path.{_≡_};
 ghost use mathlib.Core.List.{List, [], _++_};
 ghost use Prim.Native.Nat.{ℕ, _+_, _≤_};
@@ -21,7 +21,7 @@ pub struct Fed {
     pub count: usize,
 }
 
-// The line of a number of the replay's own.
+// The line of a number of the replay's own, with the value 0.
 fn refusal(number: u32) -> [u8; 12]
     ensures { λ r. ⌜ r ≡ lineOf 0 number ⌝ }
 {
@@ -59,8 +59,8 @@ pub fn over(stage: Stage) -> bool
     }
 }
 
-// The number with which the end of the input ends a replay, with so many bytes not used; 0 where there is none. Past the
-// last record no byte is held: `feed` answers it with 25.
+// The number that the end of the input gives, with so many bytes not used; 0 where all was there. Past the last record
+// no byte is held: `feed` answers it with 25.
 fn end_number(stage: Stage, held: usize) -> u32
     ensures { λ r. ⌜ r ≡ endNumber stage held ⌝ }
 {

@@ -1,6 +1,6 @@
-// Records of a trace, and a line for each, 02 §1. The two tests of bank and store are made once, before the records: no
-// call changes what they say. Every call is lent an empty output: no record names the trigger. `out` takes the text; its
-// bytes past the text are left free.
+// Records of a trace, each called and its line printed (`replay.program`). It knows no file and no piece. The two tests
+// of bank and store are made once, before the records (`formed.kept`), and every call is lent an empty output
+// (`burst.replay`). `out` takes the text; its bytes past the text are left free.
 ghost use mathlib.Core.Path.{_≡_};
 ghost use mathlib.Core.Bool.{false};
 ghost use mathlib.Core.List.{List, []};
@@ -78,7 +78,7 @@ fn show_parts(
     }
 }
 
-// A bank of a state and its tables.
+// The bank that is put together from a state and its tables.
 fn shown_of(y: Lines, flags: [u8; 128], commands: [u32; 16], payloads: [u32; 16]) -> Shown
     ensures { λ r. ⌜ ((s t : List ℕ) → shownBank r s t ≡ shownParts y (tables flags commands payloads []) s t) × (r .count ≡ y .count) ⌝ }
 {

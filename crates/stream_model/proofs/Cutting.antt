@@ -1,4 +1,4 @@
--- An input may be cut anywhere.
+-- `replay.pieces`: an input may be cut in two anywhere.
 use Prim.Native.Nat.{ℕ, _+_, _-_, _*_, _≤_}
 use native.Mathlib.Omega.{arith}
 use native.Mathlib.Nat.{zero-add, add-assoc}

@@ -61,7 +61,7 @@ module _ {A : Type 0} (make : Call → A → A) (stop : A → A) where
       let e : n + suc i ≡ suc (n + i) = omega arith in
       λ j s. onward make stop (record-behind n i bytes j) s ((each-behind k n (suc i) bytes ∙ ap (each make stop k bytes) e) j)
 
-  -- a change that calls and stops do not see
+  -- a change f that the steps for a call and for a wrong record respect
   module _ (f : A → A) (makes : (k : Call) (x : A) → f (make k x) ≡ make k (f x)) (stops : (x : A) → f (stop x) ≡ stop (f x)) where
     onward-carried : (p : Parsed) (x : A) (rest : A → A) → ((y : A) → f (rest y) ≡ rest (f y)) → f (onward make stop p x rest) ≡ onward make stop p (f x) rest
     onward-carried (Named k) x rest h = h (make k x) ∙ ap rest (makes k x)

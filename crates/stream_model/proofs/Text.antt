@@ -16,7 +16,7 @@ use Rattle.record_model.proofs.Each.{goes}
 use Rattle.stream_model.specs.declared.Stage.the-variants.{Records}
 use Rattle.stream_model.specs.Stream.{Printed, printed, said, met, lines, Stream, stream, over, recordsOf}
 
--- a record more, and its line behind those before
+-- one record more, and its line behind those before
 pub next : (n i : ℕ) (bytes : List ℕ) (l : Controller) (k : Call) (x : Step Controller) (t text out : List ℕ) → i < n → recordAt bytes i ≡ Named k → x ≡ step rings l k
     → text ≡ lineOf (x .answer .value) (x .answer .number) → take (12 * i + 12) out ≡ t ++ text
     → each said met (n - (i + 1)) bytes (i + 1) (printed (x .next) (take (12 * (i + 1)) out) false) ≡ each said met (n - i) bytes i (printed l t false)

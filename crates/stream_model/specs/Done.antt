@@ -45,11 +45,12 @@ lastLine file =
     (lineOf 0 number.wrongTable))
     (lineOf 0 number.wrongMark)
 
--- every input: a line for each of these calls, made one after another, and the last line
+-- `replay.program`, `replay.ends`, `replay.length`, of every input: a line for each of these calls, made one after another, and the last
+-- line
 unfoldable pub EveryInput : Type 0
 EveryInput = (l : Controller) (file : List ℕ) → transcript l file ≡ spoken (saidIn file) l ++ lastLine file
 
--- demand 3, of paper 00, on a fresh bank: these calls are counted with their answers
+-- `demand.replays`, of every input on a fresh bank: these calls are counted with their answers
 unfoldable pub ProgramKeepsDemand : Type 0
 ProgramKeepsDemand =
     (file : List ℕ) (caps marks : Sizes) (id : ℕ) (store : List ℕ) (t : Tally) → setUp caps marks id .answer .number ≡ 0

@@ -1,4 +1,5 @@
--- What a stream promises beside its definition.
+-- Laws of a trace in pieces, as statements: how it is cut does not matter, and what is printed by the file's fault. proofs/ has a proof of
+-- each.
 use Prim.Native.Nat.{ℕ, _+_, _≤_}
 use mathlib.Core.Path.{_≡_}
 use mathlib.Core.Bool.{Bool, true, false, cond, _&&_}
@@ -17,11 +18,11 @@ use Rattle.stream_model.specs.declared.Stage.{Stage}
 use Rattle.stream_model.specs.declared.Stage.the-variants.{Opening}
 use Rattle.stream_model.specs.Stream.{printed, said, lines, Stream, stream, fed, endText, transcript}
 
--- one piece after another
+-- what two pieces did, the one after the other
 abbrev pub after : Stream → Stream → Stream
 after s t = stream (t .left) (t .stage) (s .used + t .used) (s .text ++ t .text)
 
--- how an input is cut does not matter: two pieces, the second behind what the first did not use, leave and print what both at once do
+-- `replay.pieces`, of two pieces: the second, behind what the first did not use, leaves and prints with it what both at once do
 unfoldable pub CutAnywhere : Type 0
 CutAnywhere = (l : Controller) (s : Stage) (a b : List ℕ)
     → (let y = fed l s a in after y (fed (y .left) (y .stage) (drop (y .used) a ++ b))) ≡ fed l s (a ++ b)
@@ -31,16 +32,16 @@ unfoldable pub fedPieces : Controller → Stage → List ℕ → List (List ℕ)
 fedPieces l s held [] = endText s (length held)
 fedPieces l s held (p ∷ ps) = let y = fed l s (held ++ p) in y .text ++ fedPieces (y .left) (y .stage) (drop (y .used) (held ++ p)) ps
 
--- however many pieces an input comes in, it prints what it does as a whole, the end included
+-- `replay.pieces`, of any number of pieces, the end of the input included
 unfoldable pub AnyPieces : Type 0
 AnyPieces = (l : Controller) (ps : List (List ℕ)) → fedPieces l Opening [] ps ≡ transcript l (flatten ps)
 
--- a file without a fault: the lines of its records, and at a wrong one 27
+-- a file without a fault: the lines of its records, and 27 where one is wrong (`replay.program`, `replay.ends`)
 unfoldable pub SoundIsPrinted : Type 0
 SoundIsPrinted = (l : Controller) (file : List ℕ) → fault file ≡ 0
     → (let p = lines (records file (sections file)) (drop (headLength file) file) l in transcript l file ≡ p .text ++ cond (p .wrong) (lineOf 0 number.wrongRecord) [])
 
--- a mark that is wrong or cut short is told, and nothing else
+-- `replay.ends`: 24 is the one line of a file whose mark is wrong or cut
 unfoldable pub MarkIsTold : Type 0
 MarkIsTold = (l : Controller) (file : List ℕ) → fault file ≡ number.wrongMark → transcript l file ≡ lineOf 0 number.wrongMark
 
@@ -50,11 +51,12 @@ tableSound file =
     let n = sections file in
     leb 6 (length file) && leb 1 n && leb n 64 && leb (headLength file) (length file) && startsRight file n && leb (placeOf file n) 0x1000000
 
--- 25, "at once" where the table is not so
+-- `replay.length`: 25 is the one line where the table is wrong or its counts come to more than 16 MiB
 unfoldable pub TableIsTold : Type 0
 TableIsTold = (l : Controller) (file : List ℕ) → fault file ≡ number.wrongTable → tableSound file ≡ false → transcript l file ≡ lineOf 0 number.wrongTable
 
--- and else a wrong length, "after the records before": the lines of the whole records that are there, up to the table's total; where one of them is wrong, 27 and no 25
+-- `replay.length`: any other 25 is a wrong length, told behind the lines of the whole records that are there, up to the table's total;
+-- where one of them is wrong it is 27 and not 25
 unfoldable pub LengthIsTold : Type 0
 LengthIsTold = (l : Controller) (file : List ℕ) → fault file ≡ number.wrongTable → tableSound file ≡ true
     → (let bytes = drop (headLength file) file in
@@ -65,7 +67,7 @@ LengthIsTold = (l : Controller) (file : List ℕ) → fault file ≡ number.wron
 abbrev pub spoken : List Call → Controller → List ℕ
 spoken ks l = foldl (λ p k. said k p) (printed l [] false) ks .text
 
--- "replays all sections of standard input in order": for a written trace the lines of all its calls, and nothing else
+-- `replay.program`, `trace.written`: for a written trace the lines of all its calls, section by section, and nothing else
 unfoldable pub WrittenIsPrinted : Type 0
 WrittenIsPrinted = (ss : List (List Call)) (l : Controller) → 1 ≤ length ss → length ss ≤ 64 → length (traceOf ss) ≤ 0x1000000 → everyWritable ss ≡ true
     → transcript l (traceOf ss) ≡ spoken (flatten ss) l

@@ -1,4 +1,5 @@
--- Replay of a trace that comes in pieces, 02 §1: "A program replays all sections of standard input in order on the session's bank". A piece is fed behind the bytes of the one before that were not used.
+-- Replay of a trace that comes in pieces, 02 §1: `replay.program`, `replay.ends`, `replay.length`. A piece is fed behind those bytes of the
+-- one before it that were not used.
 use Prim.Native.Nat.{ℕ, _+_, _-_, _*_}
 use mathlib.Core.Bool.{Bool, true, false, cond, _&&_}
 use mathlib.Core.List.{List, [], _++_}
@@ -26,14 +27,15 @@ pub record Printed : Type 0 where
 abbrev pub printed : Controller → List ℕ → Bool → Printed
 printed l t w = record { left = l; text = t; wrong = w }
 
--- "it prints a session line per record"
+-- `replay.program`: the call of a record is made, and its line is printed as in a session
 abbrev pub said : Call → Printed → Printed
 said k p = let s = step rings (p .left) k in printed (s .next) (p .text ++ lineOf (s .answer .value) (s .answer .number)) false
 
+-- a wrong record is met
 abbrev pub met : Printed → Printed
 met p = printed (p .left) (p .text) true
 
--- n records
+-- the first n records
 abbrev pub lines : ℕ → List ℕ → Controller → Printed
 lines n bytes l = each said met n bytes 0 (printed l [] false)
 
@@ -48,11 +50,11 @@ pub record Stream : Type 0 where
 abbrev pub stream : Controller → Stage → ℕ → List ℕ → Stream
 stream l s u t = record { left = l; stage = s; used = u; text = t }
 
--- "for 24, 25 or 27, one with value 0, and ends"
+-- `replay.ends`: one line more, and the replay is over
 abbrev pub over : Controller → List ℕ → List ℕ → ℕ → Stream
 over l bytes text number = stream l Over (length bytes) (text ++ lineOf 0 number)
 
--- the whole records of a piece; a wrong one; bytes past the last, where a wrong length is met
+-- the whole records of a piece: 27 at a wrong one; 25 where bytes follow the last that the table has
 abbrev pub recordsOf : Controller → ℕ → List ℕ → Stream
 recordsOf l to-come bytes =
     let n = within to-come bytes in
@@ -61,6 +63,7 @@ recordsOf l to-come bytes =
     (cond (eqb n to-come && ltb (12 * n) (length bytes)) (over (p .left) bytes (p .text) number.wrongTable)
     (stream (p .left) (Records (to-come - n)) (12 * n) (p .text)))
 
+-- the first piece, by what its first bytes tell
 abbrev pub openedBy : Controller → List ℕ → Head → Stream
 openedBy l bytes More = stream l Opening 0 []
 openedBy l bytes (Wrong number) = over l bytes [] number
@@ -78,7 +81,7 @@ isOver (Records k) = false
 isOver Over = true
 
 -- ── The end of the input ──────────────────────────────────────────────────────────────────────────────────────
--- with so many bytes not used: a mark cut short, and a table or records that are missing; 0 where nothing is
+-- the number of an input that ends with n bytes not used: 24 in the mark, 25 in the table or before the last record; 0 where all was there
 unfoldable pub endNumber : Stage → ℕ → ℕ
 endNumber Opening n = cutHead n
 endNumber (Records k) n = cond (eqb k 0) 0 number.wrongTable

@@ -1,4 +1,5 @@
-// The records of a piece of a trace, 02 §1: their lines, and what is to come. `out` takes the text; its bytes past the text
+// The whole records of a piece of a trace: their lines, and what is still to come, or the number at which the replay
+// ends (`replay.ends`). It knows how many records are due, and no table. `out` takes the text; its bytes past the text
 // are left free.
 ghost use mathlib.Core.Path.{_≡_};
 ghost use mathlib.Core.List.{[]};

@@ -5,7 +5,7 @@ use mathlib.Core.Path.{_≡_, refl, ap}
 use mathlib.Core.List.{List, [], _∷_}
 use lib.ListN.{length, set}
 
--- a store past the end changes nothing
+-- storing past the end changes nothing
 pub set-past : (l : List ℕ) (i v : ℕ) → length l ≤ i → set l i v ≡ l
 set-past [] i v h = refl
 set-past (x ∷ xs) zero v h = absurd (not-suc-le-zero h)

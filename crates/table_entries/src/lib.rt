@@ -5,7 +5,7 @@ ghost use Rattle.model.specs.View.{tables};
 ghost use Rattle.effect.specs.Effects.{tablesBy};
 use effect::Table;
 
-// One entry of a table. A place past the end stores nothing, so no caller has to bound it.
+// One entry of a table. At a place past the end nothing is stored, so that no caller has to test the place.
 fn put_flags(flags: &mut [u8], i: u32, v: u8)
     ensures { λ _. ⌜ now (flags .exit) ≡ set (now (flags .entry)) i v ⌝ }
 {

@@ -1,5 +1,5 @@
-// What the benchmark times: a section of a trace by a call in place for each record. The bank lives inside the exported
-// function, which can take no reference that leads to an enum.
+// What the benchmark of bench/ times, exported: a section of a trace by a call in place for each record. The bank is a
+// local of the exported function, which can take no reference that leads to an enum.
 ghost use mathlib.Core.Path.{_≡_};
 ghost use mathlib.Core.List.{[]};
 ghost use Prim.Native.Nat.{_*_, _≤_, _%_, _^_};
@@ -17,7 +17,7 @@ use letters::Parsed;
 use model::Call;
 use playback_model::Told;
 
-// A call in place on a bank in a local. Whoever calls this needs no walk.
+// A call in place on a bank in a local. A function of its own: only this one has a proof by hand.
 fn step_once(b: Bank, call: Call, store: &mut [u32], output: &mut [u32]) -> Out
     ensures { λ y. ⌜ givenOut y (now (store .exit)) (now (output .exit)) ≡ step rings (controller b (now (store .entry)) (now (output .entry))) call ⌝ }
 {

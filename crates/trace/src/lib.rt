@@ -1,4 +1,5 @@
-// A trace file of 02: the look-up of a section, and what the first bytes tell.
+// Trace files: the look-up of a section, as a part of the lent bytes (`trace.section`, `trace.refused`), and what the
+// first bytes tell a reader that has no more yet. It knows no record.
 ghost use mathlib.Core.Path.{_≡_};
 ghost use Prim.Native.Nat.{_+_, _*_, _≤_};
 ghost use lib.ListN.{length};
@@ -6,7 +7,7 @@ ghost use Rattle.trace_model.specs.Format.{sections, lookNumber, sectionStart, 
 ghost use Rattle.trace_model.specs.Head.{tableTold, countTold, headOf};
 use trace_model::Head;
 
-// The number of asking for section i: 24, 25, 26, or 0.
+// The number of asking for section i: 24, 25, 26, or 0 (`trace.refused`).
 pub fn look_up(file: &[u8], i: u32) -> u32
     ensures { λ r. ⌜ r ≡ lookNumber (now (file .entry)) i ⌝ }
 {
@@ -20,7 +21,7 @@ pub fn look_up(file: &[u8], i: u32) -> u32
     number::NO_SUCH_SECTION
 }
 
-// The records of section i, as a part of the file; none where the number is not 0.
+// The records of section i, as a part of the file; none where the number is not 0 (`trace.section`).
 pub fn section(file: &[u8], i: u32) -> &[u8]
     ensures { λ r. ⌜ now r ≡ section (now (file .entry)) i ⌝ }
     ensures uncopied { λ r. ⌜ (r .ptr .0 ≡ file .entry .ptr .0) × (r .ptr .1 ≡ sectionStart (now (file .entry)) i + file .entry .ptr .1) ⌝ }
@@ -43,7 +44,7 @@ pub fn section_start(file: &[u8], i: u32) -> u32
     trace_table::start_at(file, i)
 }
 
-// The table, all of it there.
+// What a table of `n` sections tells that is there as a whole.
 fn table_told(bytes: &[u8], n: u32) -> Head
     requires { ⌜ (n ≡ sections (now bytes)) × (n ≤ 64) × (6 + 8 * n ≤ length (now bytes)) ⌝ }
     ensures { λ r. ⌜ r ≡ tableTold (now (bytes .entry)) ⌝ }
@@ -60,7 +61,7 @@ fn table_told(bytes: &[u8], n: u32) -> Head
     Head::Right(len, (end as usize - len) / 12)
 }
 
-// The count of sections, and what follows it.
+// What the count of sections tells, and the table where it is there.
 fn count_told(bytes: &[u8]) -> Head
     requires { ⌜ 6 ≤ length (now bytes) ⌝ }
     ensures { λ r. ⌜ r ≡ countTold (now (bytes .entry)) ⌝ }
@@ -78,7 +79,7 @@ fn count_told(bytes: &[u8]) -> Head
     table_told(bytes, n)
 }
 
-// What the bytes of a file tell of it, as far as they go.
+// What the first bytes of a file tell.
 pub fn read_head(bytes: &[u8]) -> Head
     ensures { λ r. ⌜ r ≡ headOf (now (bytes .entry)) ⌝ }
 {

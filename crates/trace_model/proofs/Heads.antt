@@ -63,7 +63,7 @@ module _ (bytes : List ℕ) where
   pub count-there : (m : Bool) → m ≡ opens mark bytes → not m ≡ false → 6 ≤ length bytes → countTold bytes ≡ headOf bytes
   count-there m e t h = rw (le-ltb _ _ (let y : 4 ≤ length bytes = omega (arith, h) in y), sym e, not-false m t, le-ltb _ _ h)
 
--- ── What a reader may count on ────────────────────────────────────────────────────────────────────────────────
+-- ── What follows for a reader ─────────────────────────────────────────────────────────────────────────────────
 by-test : {X : Type 0} (b : Bool) → (b ≡ true → X) → (b ≡ false → X) → X
 by-test true t f = t refl
 by-test false t f = f refl

@@ -1,4 +1,4 @@
--- Where the sections of a right table lie.
+-- Where the sections of a right table lie (`trace.section`).
 use Prim.Native.Nat.{ℕ, zero, suc, _+_, _-_, _*_, _<_, _≤_}
 use native.Mathlib.Omega.{arith}
 use native.Mathlib.Decide.{decLt}
@@ -54,7 +54,7 @@ entry file i e =
     let h = f .1 in
     omega arith
 
--- what is handed back: nothing, or the stretch of the table's entry
+-- what a look-up gives: no byte, or the part of the file that the entry tells
 pub refused : (file : List ℕ) (i x : ℕ) → x ≡ lookNumber file i → (x ≡ 0 → ⊥) → ([] ≡ section file i) × (0 ≡ sectionStart file i)
 unfolding section sectionStart
 refused file i x e h =

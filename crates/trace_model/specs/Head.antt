@@ -1,4 +1,4 @@
--- What the first bytes of a trace tell a reader that has no more of it yet, 02 §1: mark and table by the definitions of a whole file.
+-- What the first bytes of a trace tell a reader that has no more of it yet, 02 §1. Mark and table are those of Format.antt.
 use Prim.Native.Nat.{ℕ, _+_, _*_}
 use mathlib.Core.Bool.{cond, _&&_}
 use mathlib.Core.List.{List}
@@ -13,23 +13,24 @@ use Rattle.trace_model.specs.Format.{mark, opens, sections, records, pla
 abbrev pub headLength : List ℕ → ℕ
 headLength bytes = 6 + 8 * sections bytes
 
--- "25 contents wrong"; "at once if the table asks for more than 16 MiB"
+-- `replay.length`: 25 for starts that are wrong, and for counts that come to more than 16 MiB
 abbrev pub tableTold : List ℕ → Head
 tableTold bytes =
     let n = sections bytes in
     cond (startsRight bytes n && leb (placeOf bytes n) 0x1000000) (Right (headLength bytes) (records bytes n)) (Wrong number.wrongTable)
 
+-- 25 for a count of sections out of range
 abbrev pub countTold : List ℕ → Head
 countTold bytes =
     let n = sections bytes in
     cond (leb 1 n && leb n 64) (cond (ltb (length bytes) (headLength bytes)) More (tableTold bytes)) (Wrong number.wrongTable)
 
--- "24 mark wrong"
+-- 24 for the mark, once four bytes are there
 abbrev pub headOf : List ℕ → Head
 headOf bytes =
     cond (ltb (length bytes) 4) More
     (cond (opens mark bytes) (cond (ltb (length bytes) 6) More (countTold bytes)) (Wrong number.wrongMark))
 
--- a file that ends before its mark is whole, and one that ends in its table
+-- the number of a file of n bytes that ends in its mark, or else in its table
 abbrev pub cutHead : ℕ → ℕ
 cutHead n = cond (ltb n 4) number.wrongMark number.wrongTable

@@ -1,4 +1,5 @@
-// Mark and table of a trace file: whether they are right, and what an entry says. Layers, no interface.
+// Mark and table of a trace file (`trace.form`): whether they are right, and what an entry says. It knows the file's
+// bytes, and no record. Layers: the caller has to know that an entry lies inside the file.
 ghost use mathlib.Core.Path.{_≡_};
 ghost use Prim.Native.Nat.{_+_, _*_, _<_, _≤_};
 ghost use lib.ListN.{length};
@@ -30,7 +31,7 @@ pub fn count_at(file: &[u8], i: u32) -> u32
     little_endian::four_at(file, 10 + 8 * (i as usize))
 }
 
-// Where so many records end.
+// The place behind so many records of 12 bytes, the first of which is at `start`.
 pub fn past(start: u64, records: u32) -> u64
     requires { ⌜ start < 281474976710656 ⌝ }
     ensures { λ r. ⌜ r ≡ start + 12 * records ⌝ }
@@ -38,12 +39,13 @@ pub fn past(start: u64, records: u32) -> u64
     start + 12 * (records as u64)
 }
 
-// Whether the starts are right, and where the last section ends.
+// Whether the starts of a table are right, and where its last section ends.
 pub struct Walked {
     pub right: bool,
     pub end: u64,
 }
 
+// The starts of a table of `n` sections, one after another.
 pub fn walk(file: &[u8], n: u32) -> Walked
     requires { ⌜ (n ≡ sections (now file)) × (n ≤ 64) × (6 + 8 * n ≤ length (now file)) ⌝ }
     ensures { λ r. ⌜ (r .right ≡ startsRight (now (file .entry)) n) × (r .end ≡ placeOf (now (file .entry)) n) ⌝ }
@@ -81,7 +83,7 @@ fn table_right(file: &[u8]) -> bool
     t.right & (t.end == file.len() as u64) & (file.len() <= 0x100_0000)
 }
 
-// What is wrong with the file: 24, 25, or 0.
+// The number of the file as a whole: 24, 25, or 0 (`trace.refused`).
 pub fn fault(file: &[u8]) -> u32
     ensures { λ r. ⌜ r ≡ fault (now (file .entry)) ⌝ }
 {

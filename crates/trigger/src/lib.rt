@@ -1,4 +1,5 @@
-// The trigger of an offload burst, as a decision, and what the events of a burst share with it.
+// The trigger of an offload burst, as a decision (`trigger.tests`, `trigger.opens`), and what the events of a burst
+// share with it: the test of the output, and where a burst stands. It knows the state and the tables.
 ghost use mathlib.Core.Path.{_≡_};
 ghost use mathlib.Core.List.{List};
 ghost use Prim.Native.Nat.{ℕ};
@@ -14,14 +15,14 @@ use bank::Regs;
 use bank::State;
 use effect::Effect;
 
-// Whether an output of so many words is shorter than the reads.
+// Whether an output of `len` words has fewer than the burst has reads (`burst.output`).
 pub fn is_lacking(g: Regs, commands: &[u32; 16], len: usize) -> bool
     ensures { λ b. ⌜ b ≡ ltb len (readsIn (span g) (now (commands .entry))) ⌝ }
 {
     len < burst_commands::reads_in(commands, burst_commands::span_of(g))
 }
 
-// The burst stands at another command, or at none.
+// The control bits where the burst stands at command `n`, counted from 1; 0 closes it.
 pub fn stand(c: Control, n: u8) -> Control
     ensures { λ r. ⌜ r ≡ standing n c ⌝ }
 {
@@ -30,7 +31,7 @@ pub fn stand(c: Control, n: u8) -> Control
     next
 }
 
-// The number of a trigger, 0 where none of its tests holds.
+// The number of a trigger, 0 where none of its tests holds (`trigger.tests`).
 fn trigger_number(st: State, commands: &[u32; 16], len: usize) -> u32
     ensures { λ n. ⌜ ((a p o : List ℕ) (f : Fronts) → length o ≡ len → n ≡ number (trigger (seen st (tables a (now (commands .entry)) p o) f))) ⌝ }
 {
@@ -49,7 +50,7 @@ fn trigger_number(st: State, commands: &[u32; 16], len: usize) -> u32
     effect::while_idle(st.control.held, idle, n)
 }
 
-// A burst begins with the transfer of its first command.
+// A burst begins with the transfer of its first command (`trigger.opens`).
 pub fn trigger(st: State, flags: &[u8; 128], commands: &[u32; 16], len: usize) -> Effect
     ensures { λ e. ⌜ ((p o : List ℕ) (f : Fronts) → length o ≡ len → (let t = tables (now (flags .entry)) (now (commands .entry)) p o in effectOf e t ≡ verdict trigger (seen st t f))) ⌝ }
 {

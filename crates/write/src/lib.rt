@@ -1,4 +1,5 @@
-// Register writes, as decisions.
+// Register writes, as decisions: which register goes to which write of `write_cells` and `write_control`, and which are
+// refused.
 ghost use mathlib.Core.Path.{_≡_};
 ghost use Rattle.model.specs.View.{Tables};
 ghost use Rattle.model.specs.Registers.{row, write};
@@ -9,7 +10,7 @@ use effect::Effect;
 use effect::refuse;
 use registers::Register;
 
-// A write to a register.
+// A write to a register: 4 where there is none (`map.offsets`), 2 where it is read-only (`map.read-only`).
 pub fn write(r: Register, st: State, x: u32) -> Effect
     ensures { λ e. ⌜ ((t : Tables) (f : Fronts) → effectOf e t ≡ verdict (λ v. write (row r) v x) (seen st t f)) ⌝ }
 {

@@ -1,4 +1,4 @@
--- The flags of a device: stored or not, by a bit.
+-- A write to DEV_CHAR: flags stored or not, by its bit 8.
 use Prim.Native.Nat.{ℕ}
 use mathlib.Core.Path.{_≡_, refl}
 use mathlib.Core.Bool.{Bool, true, false, cond}

@@ -1,4 +1,5 @@
-// Writes to registers that hold a value: it is kept in the bits that the map names.
+// Register writes that keep a value, as decisions, in the bits that the map names (`map.bits`). Each knows its own
+// register, and whether an open burst holds it.
 ghost use mathlib.Core.Path.{_≡_};
 ghost use mathlib.Core.Bool.{cond};
 ghost use Prim.Native.Nat.{_%_, _^_};
@@ -27,7 +28,7 @@ fn put_regs(st: State, g: Regs, n: u32) -> Effect
     effect::done(st, 0, n, g, c, p, o)
 }
 
-// SCRATCH, IRQ_MASK, IBI_CONFIG and OPS keep the bits that the map names for them.
+// SCRATCH (`scratch.keeps`).
 pub fn write_scratch(st: State, x: u32) -> Effect
     ensures { λ e. ⌜ ((t : Tables) (f : Fronts) → effectOf e t ≡ verdict (λ v. write (row Scratch) v x) (seen st t f)) ⌝ }
 {
@@ -36,6 +37,7 @@ pub fn write_scratch(st: State, x: u32) -> Effect
     put_regs(st, g, 0)
 }
 
+// IRQ_MASK (`mask.keeps`).
 pub fn write_mask(st: State, x: u32) -> Effect
     ensures { λ e. ⌜ ((t : Tables) (f : Fronts) → effectOf e t ≡ verdict (λ v. write (row IrqMask) v x) (seen st t f)) ⌝ }
 {
@@ -44,6 +46,7 @@ pub fn write_mask(st: State, x: u32) -> Effect
     put_regs(st, g, 0)
 }
 
+// IBI_CONFIG (`ibi-config.keeps`).
 pub fn write_config(st: State, x: u32) -> Effect
     ensures { λ e. ⌜ ((t : Tables) (f : Fronts) → effectOf e t ≡ verdict (λ v. write (row IbiConfig) v x) (seen st t f)) ⌝ }
 {
@@ -52,14 +55,14 @@ pub fn write_config(st: State, x: u32) -> Effect
     put_regs(st, g, 0)
 }
 
-// The number of a write to OPS or an offload memory. An open burst runs by these, so the write is then dropped whole.
+// The number of a write to OPS or an offload memory: 6 while a burst is open, which runs by these (`burst.holds`).
 fn burst_number(c: Control) -> u32
     ensures { λ n. ⌜ n ≡ weigh (bursting c) 6 ⌝ }
 {
     bank::select(burst_commands::is_bursting(c), number::TRANSFER_OPEN, 0)
 }
 
-// OPS after a write, where it comes; else as it was.
+// OPS after a write where `comes` holds (`ops.keeps`); else as it was.
 fn ops_if(ops: u8, comes: bool, x: u32) -> u8
     ensures { λ r. ⌜ r ≡ cond comes (x % 2 ^ 7) ops ⌝ }
 {
@@ -67,6 +70,7 @@ fn ops_if(ops: u8, comes: bool, x: u32) -> u8
     if comes { new } else { ops }
 }
 
+// OPS (`ops.keeps`).
 pub fn write_ops(st: State, x: u32) -> Effect
     ensures { λ e. ⌜ ((t : Tables) (f : Fronts) → effectOf e t ≡ verdict (λ v. write (row Ops) v x) (seen st t f)) ⌝ }
 {
@@ -76,7 +80,7 @@ pub fn write_ops(st: State, x: u32) -> Effect
     put_regs(st, g, n)
 }
 
-// DEV_CHAR: every write selects the address; the flags are stored with bit 8 only.
+// DEV_CHAR: `dev-char.select`, `dev-char.flags`.
 pub fn write_device(st: State, x: u32) -> Effect
     ensures { λ e. ⌜ ((t : Tables) (f : Fronts) → effectOf e t ≡ verdict (λ v. write (row DevChar) v x) (seen st t f)) ⌝ }
 {
@@ -92,7 +96,7 @@ pub fn write_device(st: State, x: u32) -> Effect
     effect::done_with(st, 0, 0, g, c, p, o, t)
 }
 
-// A write of one word of an offload memory.
+// A write of one word of an offload memory (`offload.keeps`), with its number.
 fn put_entry(st: State, n: u32, t: Table) -> Effect
     ensures { λ e. ⌜ ((x : Tables) → effectOf e x ≡ record { value = 0; number = n; regs = st .regs; control = st .control; phase = st .phase; tables = cond (eqb n 0) (tablesBy t x) x; ops = keepAll }) ⌝ }
 {
@@ -104,6 +108,7 @@ fn put_entry(st: State, n: u32, t: Table) -> Effect
     effect::done_with(st, 0, n, g, c, p, o, u)
 }
 
+// An offload command (`offload.keeps`).
 pub fn write_offload_cmd(st: State, i: u32, x: u32) -> Effect
     ensures { λ e. ⌜ ((t : Tables) (f : Fronts) → effectOf e t ≡ verdict (λ v. write (row (OffloadCmd i)) v x) (seen st t f)) ⌝ }
 {
@@ -111,6 +116,7 @@ pub fn write_offload_cmd(st: State, i: u32, x: u32) -> Effect
     put_entry(st, n, Table::Command(i, x))
 }
 
+// An offload data word (`offload.keeps`).
 pub fn write_offload_sdo(st: State, i: u32, x: u32) -> Effect
     ensures { λ e. ⌜ ((t : Tables) (f : Fronts) → effectOf e t ≡ verdict (λ v. write (row (OffloadSdo i)) v x) (seen st t f)) ⌝ }
 {

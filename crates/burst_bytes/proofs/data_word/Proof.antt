@@ -8,7 +8,7 @@ use borrow.Author.Needs.{needs}
 use Rattle.burst_bytes.proofs.data_word.Statement.{statement}
 use Rattle.burst_bytes.proofs.data_word.Tie as tie
 
--- where none is open the first word stands for none
+-- where no burst is open the definition looks at the first data word too
 no-place : (n : ℕ) (ws p : List ℕ) → n ≡ 0 → getD p 0 0 ≡ getD p (writesIn (n - 1) ws) 0
 unfolding readsIn
 no-place n ws p e = rw e

@@ -21,7 +21,7 @@ use Rattle.playback_model.specs.Replay.{telling, begun, did, wrong}
 use Rattle.player.proofs.replay_parts.Statement.{statement}
 use Rattle.player.proofs.replay_parts.Tie as tie
 
--- a record more
+-- one record more
 next : (n i : ℕ) (bytes : List ℕ) (a : Answer) (l : Controller) (k : Call) → i < n → recordAt bytes i ≡ Named k
     → (let r = step rings l k in each did wrong (n - (i + 1)) bytes (i + 1) (telling 0 (i + 1) (r .answer) (r .next)) ≡ each did wrong (n - i) bytes i (telling 0 i a l))
 next n i bytes a l k h e =

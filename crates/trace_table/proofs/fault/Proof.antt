@@ -1,4 +1,4 @@
--- `trace::fault` meets its contract.
+-- `trace_table::fault` meets its contract.
 use borrow.Author.Needs.{needs}
 use mathlib.Core.Path.{refl, sym}
 use borrow.Author.Tests.{not-true, not-false}

@@ -1,4 +1,4 @@
--- `trace::marked` meets its contract.
+-- `trace_table::marked` meets its contract.
 use borrow.Author.Needs.{needs}
 use Rattle.trace_model.proofs.Table.{mark-short, mark-bytes}
 use Rattle.trace_table.proofs.marked.Statement.{statement}

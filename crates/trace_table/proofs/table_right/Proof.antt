@@ -1,4 +1,4 @@
--- `trace::table_right` meets its contract.
+-- `trace_table::table_right` meets its contract.
 use borrow.Author.Needs.{needs}
 use native.Mathlib.Omega.{arith}
 use Rattle.trace_model.proofs.Table.{wrong, measured}

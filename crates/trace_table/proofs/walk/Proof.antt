@@ -1,4 +1,4 @@
--- `trace::walk` meets its contract: a turn adds one section to both answers.
+-- `trace_table::walk` meets its contract: each turn adds one section to both results.
 use borrow.Author.Needs.{needs}
 use Prim.Native.Nat.{_+_, _-_, _*_, _≤_}
 use mathlib.Core.Path.{_≡_, refl}

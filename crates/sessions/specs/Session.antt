@@ -15,7 +15,7 @@ use Rattle.sessions.specs.declared.Ended.{Ended}
 use Rattle.sessions.specs.declared.Fed.{Fed}
 use Rattle.letters.specs.declared.Parsed.{Parsed}
 use Rattle.letters.specs.declared.Parsed.the-variants.{Named, Skipped}
-use Rattle.lines.specs.Lines.{fresh, eatOf, callOf}
+use Rattle.lines.specs.Automaton.{fresh, eatOf, callOf}
 
 -- a bank with its store and output, and what was printed
 pub record Told : Type 0 where

@@ -5,7 +5,7 @@ use mathlib.Core.Path.{_≡_, ap, sym, _∙_}
 use mathlib.Core.List.{List, [], _∷_, _++_, foldl-append}
 use lib.ListN.{length, getD, take}
 use lib.Seq.{take-suc}
-use Rattle.lines.specs.Lines.{fresh, eatOf, readingOf}
+use Rattle.lines.specs.Automaton.{fresh, eatOf, readingOf}
 
 pub take-next : (bytes : List ℕ) (i : ℕ) → i < length bytes → take (i + 1) bytes ≡ take i bytes ++ (getD bytes i 0 ∷ [])
 take-next bytes i h = let e : i + 1 ≡ suc i = omega arith in rw e (take-suc bytes i 0 h)

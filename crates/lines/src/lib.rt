@@ -2,7 +2,8 @@
 ghost use mathlib.Core.Path.{_≡_};
 ghost use mathlib.Core.Bool.{false};
 ghost use Rattle.letters.specs.Forms.{formOf};
-ghost use Rattle.lines.specs.Lines.{fresh, skipped, opened, spaced, hexOf, extended, eatOf, reading, callOf, parsedOf};
+ghost use Rattle.lines.specs.Lines.{hexOf, lineNames};
+ghost use Rattle.lines.specs.Automaton.{fresh, skipped, opened, spaced, extended, eatOf, reading, callOf};
 use letters::Parsed;
 
 // A line so far.
@@ -156,9 +157,9 @@ pub fn named(r: Reading) -> Parsed
     letters::call(r.letter, r.first, r.value)
 }
 
-// What a whole line names.
+// What a whole line names, as the grammar says it.
 pub fn parse(line: &[u8]) -> Parsed
-    ensures { λ p. ⌜ p ≡ parsedOf (now (line .entry)) ⌝ }
+    ensures { λ p. ⌜ p ≡ lineNames (now (line .entry)) ⌝ }
 {
     let mut r = begin();
     for i in 0..line.len() {

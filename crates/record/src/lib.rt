@@ -1,4 +1,4 @@
-// Records of a trace, 02 §1: which call one names.
+// Records of a trace (`trace.record`, `trace.wrong`): which call one names, its bytes, and how many some bytes have.
 ghost use mathlib.Core.Path.{_≡_};
 ghost use mathlib.Core.Bool.{cond};
 ghost use Prim.Native.Nat.{_+_, _*_, _<_, _≤_};
@@ -20,7 +20,7 @@ fn when(right: bool, c: Call) -> Parsed
     Parsed::Skipped
 }
 
-// The call of a record, by its fields. No right record has a field that a remainder cuts.
+// The call of a record, by its fields; a remainder cuts no field of a right record.
 fn named(letter: u8, zero: u8, offset: u32, v: u32, w: u32) -> Parsed
     requires { ⌜ offset < 65536 ⌝ }
     ensures { λ p. ⌜ p ≡ namedIn (formOf letter) (rec letter zero offset v w) ⌝ }

@@ -13,7 +13,7 @@ use Rattle.answer.specs.Given.{controller}
 use Rattle.lines.specs.declared.Reading.{Reading}
 use Rattle.sessions.specs.declared.Ran.{Ran}
 use Rattle.sessions.specs.declared.Ended.{Ended}
-use Rattle.lines.specs.Lines.{fresh, eatOf, callOf}
+use Rattle.lines.specs.Automaton.{fresh, eatOf, callOf}
 use Rattle.sessions.specs.Session.{Told, ranOf, ranTold, endedSession, Session, session, lineEnd, fedByte, fed}
 use Rattle.lines.proofs.Choices.{chosen, passed}
 use Rattle.lines.proofs.Bytes.{take-next}

@@ -1,7 +1,8 @@
 -- A session, 01, 'A session': bytes come in, lines are told apart, calls made, answers printed.
 use Prim.Native.Nat.{ℕ}
+use mathlib.Core.Path.{_≡_}
 use mathlib.Core.Bool.{cond}
-use mathlib.Core.List.{List, [], _++_, foldl}
+use mathlib.Core.List.{List, [], _∷_, _++_, foldl}
 use lib.Dec.{eqb}
 use lib.ListN.{take}
 use Rattle.bank.specs.declared.Answer.{Answer}
@@ -15,7 +16,8 @@ use Rattle.sessions.specs.declared.Ended.{Ended}
 use Rattle.sessions.specs.declared.Fed.{Fed}
 use Rattle.letters.specs.declared.Parsed.{Parsed}
 use Rattle.letters.specs.declared.Parsed.the-variants.{Named, Skipped}
-use Rattle.lines.specs.Lines.{fresh, eatOf, callOf}
+use Rattle.lines.specs.Lines.{before, behind, lineNames}
+use Rattle.lines.specs.Automaton.{fresh, eatOf, callOf}
 
 -- a bank with its store and output, and what was printed
 pub record Told : Type 0 where
@@ -68,3 +70,16 @@ fed = foldl fedByte
 -- what a session prints on a whole input
 abbrev pub printed : Controller → List ℕ → List ℕ
 printed l bytes = lineEnd (fed (session l fresh []) bytes) .text
+
+-- ── By lines ──────────────────────────────────────────────────────────────────────────────────────────────────
+-- the lines of an input: before its first newline, and behind each
+abbrev pub linesOf : List ℕ → List (List ℕ)
+linesOf bytes = before 0x0a bytes ∷ behind 0x0a bytes
+
+-- the call that a line names is made, and its answer printed behind what is printed
+abbrev pub afterLine : Told → List ℕ → Told
+afterLine t line = let y = ranOf (t .controller) (lineNames line) in told (y .controller) (t .text ++ y .text)
+
+-- a session prints what its lines print, one after another, each read by the grammar (`session.lines`); an empty rest behind the last newline names no call
+unfoldable pub EachLineIsRead : Type 0
+EachLineIsRead = (l : Controller) (bytes : List ℕ) → printed l bytes ≡ foldl afterLine (told l []) (linesOf bytes) .text

@@ -7,7 +7,7 @@ ghost use Prim.Native.Nat.{ℕ, _+_, _*_, _≤_};
 ghost use lib.ListN.{length, take};
 ghost use Rattle.answer.specs.Given.{controller};
 ghost use Rattle.letters.specs.declared.Parsed.the-variants.{Named, Skipped};
-ghost use Rattle.lines.specs.Lines.{callOf};
+ghost use Rattle.lines.specs.Automaton.{callOf};
 ghost use Rattle.sessions.specs.Session.{ranOf, ranTold, endedSession, fedSession, session, lineEnd, fed};
 use bank::Bank;
 use letters::Parsed;

@@ -1,6 +1,6 @@
 -- `lines::letter` meets its contract.
 use Rattle.letters.proofs.Letters.{absent}
-use Rattle.lines.specs.Lines.{opened}
+use Rattle.lines.specs.Automaton.{opened}
 use Rattle.letters.specs.Forms.{forms, find, formOf}
 use mathlib.Core.Path.{sym, ap, _∙_}
 use Prim.Native.Nat.{ℕ}

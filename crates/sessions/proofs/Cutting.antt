@@ -1,20 +1,24 @@
 -- `session.pieces`: a session's bytes may be cut anywhere.
-use Prim.Native.Nat.{ℕ, suc, _+_, _<_}
+use Prim.Native.Nat.{ℕ, _+_, _<_, _≤_}
 use mathlib.Core.Path.{_≡_, refl, ap, sym, _∙_}
 use mathlib.Core.Bool.{Bool, true, false, cond}
 use mathlib.Core.List.{List, [], _∷_, _++_, append-nil, append-assoc, foldl-append}
 use lib.Dec.{eqb}
 use lib.ListN.{length, getD, take}
-use lib.Seq.{take-suc}
-use native.Mathlib.Omega.{arith}
+use lib.Seq.{take-all}
 use borrow.Author.Tests.{eq-eqb, ne-eqb}
-use Rattle.model.specs.Rings.{Controller}
-use Rattle.answer.specs.Given.{controller}
+use Rattle.model.specs.declared.Call.{Call}
+use Rattle.model.specs.Engine.{Step, step}
+use Rattle.model.specs.Rings.{Controller, rings}
+use Rattle.answer.specs.declared.Out.{Out}
+use Rattle.answer.specs.Given.{controller, givenOut}
+use Rattle.letters.specs.declared.Parsed.{Parsed}
+use Rattle.letters.specs.declared.Parsed.the-variants.{Named, Skipped}
 use Rattle.lines.specs.declared.Reading.{Reading}
 use Rattle.sessions.specs.declared.Ran.{Ran}
 use Rattle.sessions.specs.declared.Ended.{Ended}
 use Rattle.lines.specs.Automaton.{fresh, eatOf, callOf}
-use Rattle.sessions.specs.Session.{Told, ranOf, ranTold, endedSession, Session, session, lineEnd, fedByte, fed}
+use Rattle.sessions.specs.Session.{Told, told, answerLine, ranOf, ranTold, endedSession, Session, session, lineEnd, fedByte, fed}
 use Rattle.lines.proofs.Choices.{chosen, passed}
 use Rattle.lines.proofs.Bytes.{take-next}
 
@@ -57,8 +61,12 @@ fed-next s bytes i h = sym (ap (fed s) (take-next bytes i h) ∙ cut s (take i b
 -- ── The loop of `feed`, and the ends of `end_line` ───────────────────────────────────────────────
 -- a byte of a line
 pub fed-byte : (s : Session) (l : Controller) (r : Reading) (t bytes : List ℕ) (i : ℕ) → i < length bytes → session l r t ≡ fed s (take i bytes)
-    → (getD bytes i 0 ≡ 0x0a → ⊥) → session l (eatOf r (getD bytes i 0)) t ≡ fed s (take (i + 1) bytes)
-fed-byte s l r t bytes i h e n = sym (passed (eqb (getD bytes i 0) 0x0a) (lineEnd (session l r t)) (session l (eatOf r (getD bytes i 0)) t) (ne-eqb (getD bytes i 0) 0x0a n)) ∙ ap (λ (x : Session). fedByte x (getD bytes i 0)) e ∙ fed-next s bytes i h
+    → (getD bytes i 0 ≡ 0x0a → ⊥) → (q : Reading) → q ≡ eatOf r (getD bytes i 0) → session l q t ≡ fed s (take (i + 1) bytes)
+fed-byte s l r t bytes i h e n q f =
+    ap (λ (x : Reading). session l x t) f
+    ∙ sym (passed (eqb (getD bytes i 0) 0x0a) (lineEnd (session l r t)) (session l (eatOf r (getD bytes i 0)) t) (ne-eqb (getD bytes i 0) 0x0a n))
+    ∙ ap (λ (x : Session). fedByte x (getD bytes i 0)) e
+    ∙ fed-next s bytes i h
 
 -- a newline
 pub fed-newline : (s : Session) (l : Controller) (r : Reading) (t bytes : List ℕ) (i : ℕ) → i < length bytes → session l r t ≡ fed s (take i bytes)
@@ -70,6 +78,10 @@ fed-newline s l r t bytes i h e n y s′ o out z q f =
     ∙ sym (chosen (eqb (getD bytes i 0) 0x0a) (lineEnd (session l r t)) (session l (eatOf r (getD bytes i 0)) t) (eq-eqb (getD bytes i 0) 0x0a n))
     ∙ ap (λ (x : Session). fedByte x (getD bytes i 0)) e
     ∙ fed-next s bytes i h
+
+-- all bytes
+pub fed-all : (s x : Session) (bytes : List ℕ) (i : ℕ) → x ≡ fed s (take i bytes) → length bytes ≤ i → x ≡ fed s bytes
+fed-all s x bytes i e h = e ∙ ap (fed s) (take-all i bytes h)
 
 -- the end of a line that names no call, and of one that names a call
 pub silent : (l : Controller) (r : Reading) (y : Ran) (s o t : List ℕ) → ranTold y s o ≡ ranOf l (callOf r) → y .said ≡ false
@@ -84,3 +96,16 @@ spoken l r y s o t t′ e n z =
     ap (session (controller (y .bank) s o) fresh) z
     ∙ sym (ap (λ (x : List ℕ). session (controller (y .bank) s o) fresh (t ++ x)) (chosen (y .said) (y .text) [] n))
     ∙ ap (λ (x : Told). session (x .controller) fresh (t ++ x .text)) e
+
+-- ── `serve` and `run` ────────────────────────────────────────────────────────────────────────────────────────────
+-- a call and its line
+pub served : (l : Controller) (c : Call) (y : Out) (s o text : List ℕ) → text ≡ answerLine (y .answer) → givenOut y s o ≡ step rings l c
+    → told (controller (y .bank) s o) text ≡ ranOf l (Named c)
+served l c y s o text e f = ap (told (controller (y .bank) s o)) e ∙ ap (λ (x : Step Controller). told (x .next) (answerLine (x .answer))) f
+
+-- the call that a line names, by the variant that the code saw
+pub ran-call : (l : Controller) (x : Told) (line found : Parsed) (c : Call) → x ≡ ranOf l (Named c) → found ≡ Named c → found ≡ line → x ≡ ranOf l line
+ran-call l x line found c e f g = e ∙ ap (ranOf l) (sym f ∙ g)
+
+pub ran-none : (l : Controller) (x : Told) (line found : Parsed) → x ≡ ranOf l Skipped → found ≡ Skipped → found ≡ line → x ≡ ranOf l line
+ran-none l x line found e f g = e ∙ ap (ranOf l) (sym f ∙ g)

@@ -4,6 +4,7 @@
 //! Comments name the clause they follow: "01" is the scope page, "02" section 3 of
 //! the change requests, "001" the register page, "004" the control interface.
 
+use crate::number::*;
 use std::collections::VecDeque;
 
 /// What a call returns. 01, Numbers: "Each call returns a value and a number;
@@ -15,40 +16,16 @@ pub struct Answer {
 }
 
 fn done(value: u32) -> Answer {
-    Answer { value, number: 0 }
+    Answer {
+        value,
+        number: DONE,
+    }
 }
 
 /// 01, Numbers: "Except for 0 and 19 ... the value is 0."
 fn refuse(number: u8) -> Answer {
     Answer { value: 0, number }
 }
-
-// 01, Numbers, the table.
-const FULL: u8 = 1;
-const READ_ONLY: u8 = 2;
-const EMPTY: u8 = 3;
-const NOT_IN_MAP: u8 = 4;
-const HELD_IN_RESET: u8 = 5;
-const TRANSFER_OPEN: u8 = 6;
-const NO_TRANSFER: u8 = 7;
-const OFFLOAD_MODE: u8 = 8;
-const NO_WHOLE_COMMAND: u8 = 9;
-const NOT_FOR_THIS_KIND: u8 = 10;
-const LENGTH_REACHED: u8 = 11;
-const SDO_EMPTY: u8 = 12;
-const NO_ROOM: u8 = 13;
-const ENDING_NOT_ALLOWED: u8 = 14;
-const SDO_NOT_EMPTY: u8 = 15;
-const NOT_HEARD: u8 = 16;
-const NOT_ACKNOWLEDGED: u8 = 17;
-const OUT_OF_RANGE: u8 = 18;
-const WRONG_PARITY: u8 = 19;
-const NOT_ATTACHED: u8 = 20;
-const NOT_WELL_FORMED: u8 = 21;
-const SETUP_OUT_OF_RANGE: u8 = 23;
-// 02, Refusals.
-const NO_BURST_LENGTH: u8 = 28;
-const NOT_CARRIED: u8 = 29;
 
 /// One call other than set-up.
 #[derive(Clone, Copy, Debug, PartialEq, Eq)]
@@ -479,7 +456,7 @@ pub fn set_up(numbers: &SetupNumbers) -> (Bank, Answer) {
     if numbers.in_range() {
         (Bank::new(*numbers, true), done(0))
     } else {
-        (Bank::new(ZERO_NUMBERS, false), refuse(SETUP_OUT_OF_RANGE))
+        (Bank::new(ZERO_NUMBERS, false), refuse(SET_UP_OUT_OF_RANGE))
     }
 }
 
@@ -542,7 +519,7 @@ impl Bank {
             return refuse(NOT_WELL_FORMED);
         }
         let Some(register) = register_at(offset) else {
-            return refuse(NOT_IN_MAP);
+            return refuse(NO_REGISTER);
         };
         match register {
             Register::Cmdr => self.read_cmdr(),
@@ -648,13 +625,13 @@ impl Bank {
             return refuse(NOT_WELL_FORMED);
         }
         let Some(register) = register_at(offset) else {
-            return refuse(NOT_IN_MAP);
+            return refuse(NO_REGISTER);
         };
         if self.burst_place().is_some() && is_locked_by_burst(register) {
             return refuse(TRANSFER_OPEN);
         }
         if is_read_only(register) {
-            return refuse(READ_ONLY);
+            return refuse(DROPPED_READ_ONLY);
         }
         match register {
             Register::Cmd => return self.write_cmd(value),
@@ -672,7 +649,7 @@ impl Bank {
             // 01: "all read and write, against 001."
             Register::OffloadCommand(n) => self.offload_commands[n] = value,
             Register::OffloadData(n) => self.offload_data[n] = value,
-            _ => return refuse(READ_ONLY),
+            _ => return refuse(DROPPED_READ_ONLY),
         }
         done(0)
     }
@@ -683,7 +660,7 @@ impl Bank {
             return refuse(HELD_IN_RESET);
         }
         if self.cmd.is_full() {
-            return refuse(FULL);
+            return refuse(DROPPED_FULL);
         }
         self.cmd.push(word);
         done(0)
@@ -695,7 +672,7 @@ impl Bank {
             return refuse(HELD_IN_RESET);
         }
         if self.sdo.is_full() {
-            return refuse(FULL);
+            return refuse(DROPPED_FULL);
         }
         self.sdo.push(word);
         self.pending.address = false;
@@ -776,10 +753,10 @@ impl Bank {
             return refuse(TRANSFER_OPEN);
         }
         if self.is_in_offload_mode() {
-            return refuse(OFFLOAD_MODE);
+            return refuse(NOT_IN_THIS_MODE);
         }
         let Some((first, second)) = self.waiting_command() else {
-            return refuse(NO_WHOLE_COMMAND);
+            return refuse(NO_COMMAND);
         };
         let command = parse_command(first, second);
         if matches!(command.kind, Kind::Entdaa { .. }) && !self.sdo.is_empty() {
@@ -849,7 +826,7 @@ impl Bank {
             return refuse(NOT_ATTACHED);
         }
         if !transfer.is_write() {
-            return refuse(NOT_FOR_THIS_KIND);
+            return refuse(NOT_THIS_KIND);
         }
         if transfer.moved == transfer.command.length {
             return refuse(LENGTH_REACHED);
@@ -884,7 +861,7 @@ impl Bank {
             return refuse(NOT_ATTACHED);
         }
         if !transfer.is_read() {
-            return refuse(NOT_FOR_THIS_KIND);
+            return refuse(NOT_THIS_KIND);
         }
         if transfer.moved == transfer.command.length {
             return refuse(LENGTH_REACHED);
@@ -1016,10 +993,10 @@ impl Bank {
             return refuse(NO_TRANSFER);
         };
         let Kind::Entdaa { open, made } = &mut transfer.command.kind else {
-            return refuse(NOT_FOR_THIS_KIND);
+            return refuse(NOT_THIS_KIND);
         };
         if *open {
-            return refuse(NOT_FOR_THIS_KIND);
+            return refuse(NOT_THIS_KIND);
         }
         if self.sdi.room() < 2 {
             return refuse(NO_ROOM);
@@ -1057,10 +1034,10 @@ impl Bank {
             return refuse(NO_TRANSFER);
         };
         let Kind::Entdaa { open, .. } = &mut transfer.command.kind else {
-            return refuse(NOT_FOR_THIS_KIND);
+            return refuse(NOT_THIS_KIND);
         };
         if !*open {
-            return refuse(NOT_FOR_THIS_KIND);
+            return refuse(NOT_THIS_KIND);
         }
         let Some(word) = self.sdo.take() else {
             return refuse(SDO_EMPTY);
@@ -1097,11 +1074,11 @@ impl Bank {
             return refuse(TRANSFER_OPEN);
         }
         if !self.is_in_offload_mode() {
-            return refuse(OFFLOAD_MODE);
+            return refuse(NOT_IN_THIS_MODE);
         }
         let commands = self.burst_commands();
         if commands.is_empty() {
-            return refuse(NO_BURST_LENGTH);
+            return refuse(BURST_HAS_NO_COMMANDS);
         }
         if !commands.iter().all(|word| is_carried(*word)) {
             return refuse(NOT_CARRIED);

@@ -11,4 +11,5 @@ pub mod demand;
 pub mod engine;
 pub mod formed;
 pub mod lines;
+pub mod number;
 pub mod trace;

@@ -4,6 +4,7 @@
 //! address byte, D two words, A".
 
 use crate::engine::{set_up, Answer, Bank, Call, SetupNumbers, SESSION_NUMBERS};
+use crate::number::DONE;
 use std::io::{self, BufRead, Write};
 
 /// The most reads of a burst, and one word more.
@@ -257,7 +258,7 @@ impl Program {
             }
             Request::ShowOutput(place) => Some(Answer {
                 value: self.output[*place],
-                number: 0,
+                number: DONE,
             }),
         }
     }

@@ -6,13 +6,8 @@
 
 use crate::engine::{Answer, Bank, Call};
 use crate::lines::{print_answer, put_answer, session_bank, Letter, LINE_BYTES};
+use crate::number::{DONE, NO_SUCH_SECTION, WRONG_MARK, WRONG_RECORD, WRONG_TABLE};
 use std::io::{self, ErrorKind, Read, Write};
-
-// 02, Refusals.
-const WRONG_MARK: u8 = 24;
-const WRONG_CONTENTS: u8 = 25;
-const NO_SUCH_SECTION: u8 = 26;
-const WRONG_RECORD: u8 = 27;
 
 /// 02: "It opens with the four bytes `I3TR`".
 const MARK: &[u8; 4] = b"I3TR";
@@ -55,11 +50,11 @@ fn entries(table: &[u8]) -> impl Iterator<Item = Entry> + '_ {
 fn table_bytes(head: &[u8]) -> Result<usize, u8> {
     let behind_mark = head.strip_prefix(MARK).ok_or(WRONG_MARK)?;
     let [low, high, ..] = *behind_mark else {
-        return Err(WRONG_CONTENTS);
+        return Err(WRONG_TABLE);
     };
     match usize::from(u16::from_le_bytes([low, high])) {
         sections @ 1..=MOST_SECTIONS => Ok(sections * ENTRY_BYTES),
-        _ => Err(WRONG_CONTENTS),
+        _ => Err(WRONG_TABLE),
     }
 }
 
@@ -70,12 +65,12 @@ fn file_bytes(table: &[u8]) -> Result<u64, u8> {
     let mut end = (HEAD_BYTES + table.len()) as u64;
     for entry in entries(table) {
         if u64::from(entry.start) != end {
-            return Err(WRONG_CONTENTS);
+            return Err(WRONG_TABLE);
         }
         end += u64::from(entry.count) * RECORD_BYTES as u64;
     }
     if end > MOST_FILE_BYTES {
-        return Err(WRONG_CONTENTS);
+        return Err(WRONG_TABLE);
     }
     Ok(end)
 }
@@ -83,10 +78,10 @@ fn file_bytes(table: &[u8]) -> Result<u64, u8> {
 /// The contents of a whole file, if it is a trace. The records are not looked at.
 fn contents(trace: &[u8]) -> Result<&[u8], u8> {
     let length = table_bytes(trace)?;
-    let table = trace[HEAD_BYTES..].get(..length).ok_or(WRONG_CONTENTS)?;
+    let table = trace[HEAD_BYTES..].get(..length).ok_or(WRONG_TABLE)?;
     // 02: "too short or too long for them".
     if trace.len() as u64 != file_bytes(table)? {
-        return Err(WRONG_CONTENTS);
+        return Err(WRONG_TABLE);
     }
     Ok(table)
 }
@@ -94,7 +89,7 @@ fn contents(trace: &[u8]) -> Result<&[u8], u8> {
 /// 24 or 25 for a whole file, 0 if it is a trace. As with the other calls for a whole
 /// file, only tests have one, those of `bench/` too: the program meets its length last.
 pub fn check(trace: &[u8]) -> u8 {
-    contents(trace).err().unwrap_or(0)
+    contents(trace).err().unwrap_or(DONE)
 }
 
 fn find_section(trace: &[u8], section: usize) -> Result<&[u8], u8> {
@@ -109,7 +104,7 @@ fn find_section(trace: &[u8], section: usize) -> Result<&[u8], u8> {
 /// of the caller's own bytes, uncopied, empty if refused."
 pub fn section(trace: &[u8], section: usize) -> (&[u8], u8) {
     match find_section(trace, section) {
-        Ok(records) => (records, 0),
+        Ok(records) => (records, DONE),
         Err(number) => (&trace[..0], number),
     }
 }
@@ -174,11 +169,11 @@ pub struct Replay {
 /// and names only 27 as a number "where replay stops with the earlier records done".
 pub fn replay(trace: &[u8], section: usize, most: usize, bank: &mut Bank) -> Replay {
     let mut replay = Replay {
-        number: 0,
+        number: DONE,
         done: 0,
         last: Answer {
             value: 0,
-            number: 0,
+            number: DONE,
         },
     };
     let records = match find_section(trace, section) {
@@ -221,7 +216,7 @@ fn read_contents(input: &mut impl Read) -> Result<usize, u8> {
     let mut table = [0; MOST_SECTIONS * ENTRY_BYTES];
     let table = &mut table[..length];
     if fill(input, table) < length {
-        return Err(WRONG_CONTENTS);
+        return Err(WRONG_TABLE);
     }
     // The sections have no gaps, so that their records are one row.
     let records = file_bytes(table)? as usize - HEAD_BYTES - length;
@@ -266,13 +261,13 @@ fn replay_records(
             return Ok(WRONG_RECORD);
         }
         if whole < wanted {
-            return Ok(WRONG_CONTENTS);
+            return Ok(WRONG_TABLE);
         }
         count -= wanted;
     }
     match fill(input, &mut [0]) {
-        0 => Ok(0),
-        _ => Ok(WRONG_CONTENTS),
+        0 => Ok(DONE),
+        _ => Ok(WRONG_TABLE),
     }
 }
 
@@ -284,7 +279,7 @@ pub fn run_replay(mut input: impl Read, output: &mut impl Write) -> io::Result<(
         Ok(count) => replay_records(count, &mut input, output)?,
         Err(number) => number,
     };
-    if number != 0 {
+    if number != DONE {
         print_answer(Answer { value: 0, number }, output)?;
     }
     output.flush()

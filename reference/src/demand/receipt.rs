@@ -2,6 +2,7 @@
 
 use super::clause::{Clause, Findings};
 use super::transfer::Transfer;
+use crate::number::EMPTY;
 use std::collections::VecDeque;
 
 /// 01: "Receipt: 23:20 error, 19:8 length, 7:0 sync". Bits 31:24 are not part of
@@ -102,7 +103,7 @@ impl Receipts {
             Some(Receipt(word)) => {
                 format!("expected receipt {number}, {word:08x}, saw {seen:08x}")
             }
-            None => format!("expected 03, no receipt is queued, saw {seen:08x}"),
+            None => format!("expected {EMPTY:02}, no receipt is queued, saw {seen:08x}"),
         });
         if !kept {
             self.queued = None;
@@ -111,8 +112,8 @@ impl Receipts {
 
     /// 01, number 3: "read of an empty CMDR ... queue". After it CMDR is taken to be
     /// empty, so that one lost receipt is reported once.
-    pub fn read_refused_with_3(&mut self, findings: &mut Findings) {
-        self.said_empty(true, "03", findings);
+    pub fn read_refused(&mut self, findings: &mut Findings) {
+        self.said_empty(true, &format!("{EMPTY:02}"), findings);
         if let Some(queued) = &mut self.queued {
             queued.clear();
         }

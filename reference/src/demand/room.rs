@@ -2,6 +2,7 @@
 
 use super::clause::{Clause, Findings};
 use crate::engine::Answer;
+use crate::number::DONE;
 
 /// 00: "Every command word written after a read of the room above 0, made since the
 /// release, with no other command word written between, was taken."
@@ -31,11 +32,11 @@ impl RoomReads {
         // A word that was refused was written too.
         self.read_above_0 = false;
         self.each_word_after_read &= after_read;
-        let taken = answer.number == 0;
+        let taken = answer.number == DONE;
         let number = answer.number;
         if after_read {
             findings.judge(Clause::TakenAfterRoom, taken, || {
-                format!("expected word {word:08x} taken (00), saw {number:02}")
+                format!("expected word {word:08x} taken ({DONE:02}), saw {number:02}")
             });
         }
         if self.each_word_after_read {

@@ -11,6 +11,7 @@ use super::room::RoomReads;
 use super::transfer::Transfers;
 use super::waiting::Commands;
 use crate::engine::{Answer, Call, SetupNumbers, SESSION_NUMBERS};
+use crate::number::{DONE, EMPTY, NO_COMMAND, SDO_NOT_EMPTY};
 
 // 01, Register map.
 const ENABLE: u16 = 0x040;
@@ -20,12 +21,6 @@ const CMD: u16 = 0x0d4;
 const CMDR: u16 = 0x0d8;
 const FIFO_STATUS: u16 = 0x0e8;
 const OPS: u16 = 0x100;
-
-// 01, Numbers, the table.
-const DONE: u8 = 0;
-const EMPTY: u8 = 3;
-const NO_WHOLE_COMMAND: u8 = 9;
-const SDO_NOT_EMPTY: u8 = 15;
 
 /// What is counted since the release.
 #[derive(Debug)]
@@ -82,7 +77,7 @@ impl Stretch {
                 self.commands.room(value, findings);
             }
             (CMDR, DONE) => self.receipts.read(Receipt(value), findings),
-            (CMDR, EMPTY) => self.receipts.read_refused_with_3(findings),
+            (CMDR, EMPTY) => self.receipts.read_refused(findings),
             (CMDR_LEVEL, DONE) => self.receipts.level(value, findings),
             (FIFO_STATUS, DONE) => self.receipts.status(value, findings),
             (OPS, DONE) => self.transfers.ops(value, findings),
@@ -96,8 +91,8 @@ impl Stretch {
                 let command = self.commands.start(answer.value, findings);
                 self.transfers.start(command, findings);
             }
-            NO_WHOLE_COMMAND => self.commands.start_refused_with_9(findings),
-            SDO_NOT_EMPTY => self.commands.start_refused_with_15(findings),
+            NO_COMMAND => self.commands.refused_without_command(findings),
+            SDO_NOT_EMPTY => self.commands.refused_for_sdo(findings),
             _ => self.transfers.refusal(answer, findings),
         }
     }

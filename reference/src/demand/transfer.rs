@@ -3,10 +3,7 @@
 use super::clause::{Clause, Findings};
 use super::command::{Command, Kind};
 use crate::engine::Answer;
-
-/// 01, Numbers: "a transfer is open" and "no transfer is open".
-const TRANSFER_OPEN: u8 = 6;
-const NO_TRANSFER: u8 = 7;
+use crate::number::{DONE, NO_TRANSFER, TRANSFER_OPEN};
 
 #[derive(Debug)]
 pub struct Transfer {
@@ -15,6 +12,11 @@ pub struct Transfer {
     /// 01: "Bytes moved for a command: the sends and receives answered 0 while it
     /// was open."
     pub moved: u64,
+}
+
+/// An answer's number as its line has it.
+fn number_text(answer: Answer) -> String {
+    format!("{:02}", answer.number)
 }
 
 /// The transfers since the release.
@@ -57,7 +59,10 @@ impl Transfers {
         }
         let Some(transfer) = &mut self.open else {
             findings.judge(Clause::EventsOfItsKind, false, || {
-                format!("expected a refusal, {} is not open, saw 00", kind.name())
+                format!(
+                    "expected a refusal, {} is not open, saw {DONE:02}",
+                    kind.name()
+                )
             });
             return;
         };
@@ -67,7 +72,7 @@ impl Transfers {
             findings.judge(Clause::EventsOfItsKind, kept, || {
                 let open_kind = command.kind().name();
                 let first = command.first;
-                format!("expected a refusal for {first:08x}, {open_kind}, saw 00")
+                format!("expected a refusal for {first:08x}, {open_kind}, saw {DONE:02}")
             });
         }
     }
@@ -89,8 +94,8 @@ impl Transfers {
     /// An event refused; two numbers say whether a transfer is open.
     pub fn refusal(&self, answer: Answer, findings: &mut Findings) {
         match answer.number {
-            TRANSFER_OPEN => self.said_open("06", findings),
-            NO_TRANSFER => self.said_not_open("07", findings),
+            TRANSFER_OPEN => self.said_open(&number_text(answer), findings),
+            NO_TRANSFER => self.said_not_open(&number_text(answer), findings),
             _ => {}
         }
     }

@@ -2,6 +2,7 @@
 
 use super::clause::{Clause, Findings};
 use super::command::{Command, Kind, WaitingWords};
+use crate::number::{NO_COMMAND, SDO_NOT_EMPTY};
 
 /// The commands since the release, up to the first start that is not the next
 /// command's: from there the n-th start is no longer the n-th command's, and what
@@ -72,20 +73,20 @@ impl Commands {
     }
 
     /// 01, number 9: "no whole command waits".
-    pub fn start_refused_with_9(&self, findings: &mut Findings) {
+    pub fn refused_without_command(&self, findings: &mut Findings) {
         let Some(waiting) = &self.waiting else {
             return;
         };
         let command = waiting.first_command();
         findings.judge(Clause::RestWaits, command.is_none(), || {
             let first = command.map_or(0, |command| command.first);
-            format!("expected command {first:08x} waiting, saw start answered 09")
+            format!("expected command {first:08x} waiting, saw start answered {NO_COMMAND:02}")
         });
     }
 
     /// 01, number 15: "SDO not empty at ENTDAA start": the first command that waits
     /// is ENTDAA.
-    pub fn start_refused_with_15(&self, findings: &mut Findings) {
+    pub fn refused_for_sdo(&self, findings: &mut Findings) {
         let Some(waiting) = &self.waiting else {
             return;
         };
@@ -95,9 +96,15 @@ impl Commands {
             Some(command) => {
                 let kind = command.kind().name();
                 let first = command.first;
-                format!("expected command {first:08x}, {kind}, waiting, saw start answered 15")
+                format!(
+                    "expected command {first:08x}, {kind}, waiting, \
+                     saw start answered {SDO_NOT_EMPTY:02}"
+                )
             }
-            None => "expected 09, no whole command waits, saw start answered 15".to_string(),
+            None => format!(
+                "expected {NO_COMMAND:02}, no whole command waits, \
+                 saw start answered {SDO_NOT_EMPTY:02}"
+            ),
         });
     }
 }

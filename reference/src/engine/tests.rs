@@ -24,7 +24,7 @@ fn with_device() -> Bank {
 
 fn value_at(bank: &mut Bank, offset: u16) -> u32 {
     let answer = bank.read(offset);
-    assert_eq!(answer.number, 0);
+    assert_eq!(answer.number, DONE);
     answer.value
 }
 
@@ -61,20 +61,20 @@ fn set_up_ranges() {
     for queue in 0..5 {
         let mut numbers = least;
         numbers.capacities[queue] -= 1;
-        assert_eq!(set_up(&numbers).1, refuse(23));
+        assert_eq!(set_up(&numbers).1, refuse(SET_UP_OUT_OF_RANGE));
         let mut numbers = greatest;
         numbers.capacities[queue] = 1025;
-        assert_eq!(set_up(&numbers).1, refuse(23));
+        assert_eq!(set_up(&numbers).1, refuse(SET_UP_OUT_OF_RANGE));
         let mut numbers = least;
         numbers.watermarks[queue] = least.capacities[queue] + 1;
-        assert_eq!(set_up(&numbers).1, refuse(23));
+        assert_eq!(set_up(&numbers).1, refuse(SET_UP_OUT_OF_RANGE));
         let mut numbers = least;
         numbers.watermarks[queue] = u32::MAX;
-        assert_eq!(set_up(&numbers).1, refuse(23));
+        assert_eq!(set_up(&numbers).1, refuse(SET_UP_OUT_OF_RANGE));
     }
     let mut numbers = least;
     numbers.id = 256;
-    assert_eq!(set_up(&numbers).1, refuse(23));
+    assert_eq!(set_up(&numbers).1, refuse(SET_UP_OUT_OF_RANGE));
 }
 
 /// 01: "a bank held in reset, registers and device table 0 but for ENABLE and ID".
@@ -111,7 +111,7 @@ fn registers_after_set_up() {
         assert_eq!(bank.read(offset), done(value), "{offset:#x}");
     }
     for offset in [0x0d8, 0x0e0, 0x0e4] {
-        assert_eq!(bank.read(offset), refuse(3));
+        assert_eq!(bank.read(offset), refuse(EMPTY));
     }
 }
 
@@ -125,15 +125,15 @@ fn offsets_of_the_map() {
         let mut bank = released();
         let read = bank.read(offset);
         let written = bank.write(offset, 0);
-        assert_eq!(read.number == 4, written.number == 4);
-        if read.number != 4 {
+        assert_eq!(read.number == NO_REGISTER, written.number == NO_REGISTER);
+        if read.number != NO_REGISTER {
             in_map += 1;
             assert_eq!(offset % 4, 0);
         }
     }
     assert_eq!(in_map, 3 + 1 + 3 + 11 + 3 + 32);
     for offset in [1, 0x0d5, 0x00c, 0x044, 0x08c, 0x0ec, 0x2bc, 0x2c2, 0x340] {
-        assert_eq!(released().read(offset), refuse(4));
+        assert_eq!(released().read(offset), refuse(NO_REGISTER));
     }
 }
 
@@ -146,7 +146,7 @@ fn read_only_registers() {
     for offset in offsets {
         for mut bank in [fresh(), released()] {
             let before = bank.clone();
-            assert_eq!(bank.write(offset, u32::MAX), refuse(2));
+            assert_eq!(bank.write(offset, u32::MAX), refuse(DROPPED_READ_ONLY));
             assert_eq!(bank, before);
         }
     }
@@ -209,17 +209,17 @@ fn device_table() {
 #[test]
 fn held_in_reset() {
     let mut bank = fresh();
-    assert_eq!(bank.write(0xd4, 0), refuse(5));
-    assert_eq!(bank.write(0xdc, 0), refuse(5));
-    assert_eq!(bank.start(&[]), refuse(5));
-    assert_eq!(bank.send(&[]), refuse(5));
-    assert_eq!(bank.receive(0, &[]), refuse(5));
-    assert_eq!(bank.finish(15, &mut []), refuse(5));
-    assert_eq!(bank.finish(16, &mut []), refuse(18));
-    assert_eq!(bank.interrupt_request(127, 0, &[]), refuse(5));
-    assert_eq!(bank.interrupt_request(128, 0, &[]), refuse(18));
-    assert_eq!(bank.address_request(0, 0, &[]), refuse(5));
-    assert_eq!(bank.address_take(&[]), refuse(5));
+    assert_eq!(bank.write(0xd4, 0), refuse(HELD_IN_RESET));
+    assert_eq!(bank.write(0xdc, 0), refuse(HELD_IN_RESET));
+    assert_eq!(bank.start(&[]), refuse(HELD_IN_RESET));
+    assert_eq!(bank.send(&[]), refuse(HELD_IN_RESET));
+    assert_eq!(bank.receive(0, &[]), refuse(HELD_IN_RESET));
+    assert_eq!(bank.finish(15, &mut []), refuse(HELD_IN_RESET));
+    assert_eq!(bank.finish(16, &mut []), refuse(OUT_OF_RANGE));
+    assert_eq!(bank.interrupt_request(127, 0, &[]), refuse(HELD_IN_RESET));
+    assert_eq!(bank.interrupt_request(128, 0, &[]), refuse(OUT_OF_RANGE));
+    assert_eq!(bank.address_request(0, 0, &[]), refuse(HELD_IN_RESET));
+    assert_eq!(bank.address_take(&[]), refuse(HELD_IN_RESET));
     assert_eq!(bank, fresh());
 }
 
@@ -307,7 +307,7 @@ fn almost_full() {
     }
     started(&mut bank, &[0x111]);
     bank.receive(0, &[]);
-    assert_eq!(bank.finish(0, &mut []), refuse(13));
+    assert_eq!(bank.finish(0, &mut []), refuse(NO_ROOM));
     assert_eq!(value_at(&mut bank, 0x100), 0);
 }
 
@@ -358,20 +358,20 @@ fn emptying_reads_clear_pending() {
 #[test]
 fn start_order() {
     let mut bank = with_device();
-    assert_eq!(bank.start(&[]), refuse(9));
+    assert_eq!(bank.start(&[]), refuse(NO_COMMAND));
     bank.write(0x100, 1);
-    assert_eq!(bank.start(&[]), refuse(8));
+    assert_eq!(bank.start(&[]), refuse(NOT_IN_THIS_MODE));
     bank.write(0x100, 0);
     started(&mut bank, &[0x10]);
     bank.write(0x100, 1);
-    assert_eq!(bank.start(&[]), refuse(6));
+    assert_eq!(bank.start(&[]), refuse(TRANSFER_OPEN));
     assert_eq!(bank.finish(0, &mut []), done(0));
     bank.write(0x100, 0x7e);
     bank.write(0xdc, 0);
     bank.write(0xd4, CCC);
-    assert_eq!(bank.start(&[]), refuse(9));
+    assert_eq!(bank.start(&[]), refuse(NO_COMMAND));
     bank.write(0xd4, 7);
-    assert_eq!(bank.start(&[]), refuse(15));
+    assert_eq!(bank.start(&[]), refuse(SDO_NOT_EMPTY));
     assert_eq!(value_at(&mut bank, 0xc0), 2);
 }
 
@@ -393,17 +393,23 @@ fn attached_is_noted_at_start() {
     started(&mut bank, &[PRIVATE_READ_5]);
     bank.write(0x180, 0x1100);
     assert_eq!(bank.receive(1, &[]), done(0));
-    assert_eq!(bank.finish(8, &mut []), refuse(14));
+    assert_eq!(bank.finish(8, &mut []), refuse(ENDING_NOT_ALLOWED));
     assert_eq!(bank.finish(0, &mut []), done(0x100));
 
     started(&mut bank, &[PRIVATE_READ_5]);
     bank.write(0x180, 0x1102);
-    assert_eq!(bank.receive(1, &[]), refuse(20));
-    assert_eq!(bank.send(&[]), refuse(20));
-    assert_eq!(bank.finish(0, &mut []), refuse(14));
+    assert_eq!(bank.receive(1, &[]), refuse(NOT_ATTACHED));
+    assert_eq!(bank.send(&[]), refuse(NOT_ATTACHED));
+    assert_eq!(bank.finish(0, &mut []), refuse(ENDING_NOT_ALLOWED));
     assert_eq!(bank.finish(8, &mut []), done(0x0080_0001));
 
-    for (second, number) in [(0x80, 20), (0x87, 20), (0x00, 0), (0x06, 0), (0x107, 10)] {
+    for (second, number) in [
+        (0x80, NOT_ATTACHED),
+        (0x87, NOT_ATTACHED),
+        (0x00, DONE),
+        (0x06, DONE),
+        (0x107, NOT_THIS_KIND),
+    ] {
         let mut bank = released();
         started(&mut bank, &[CCC | 0x111, second]);
         assert_eq!(bank.receive(1, &[]).number, number, "{second:#x}");
@@ -418,21 +424,21 @@ fn attached_is_noted_at_start() {
 fn send_takes_words() {
     let mut bank = with_device();
     started(&mut bank, &[0x510]);
-    assert_eq!(bank.send(&[]), refuse(12));
+    assert_eq!(bank.send(&[]), refuse(SDO_EMPTY));
     bank.write(0xdc, 0x0102_0304);
     assert_eq!(value_at(&mut bank, 0xc8), 3);
     for byte in 1..=4 {
         assert_eq!(bank.send(&[]), done(byte));
         assert_eq!(value_at(&mut bank, 0xc8), 4);
     }
-    assert_eq!(bank.send(&[]), refuse(12));
+    assert_eq!(bank.send(&[]), refuse(SDO_EMPTY));
     for code in 0..=15 {
-        assert_eq!(bank.finish(code, &mut []), refuse(14));
+        assert_eq!(bank.finish(code, &mut []), refuse(ENDING_NOT_ALLOWED));
     }
     bank.write(0xdc, 0x0506_0708);
     bank.write(0xdc, 0x090a_0b0c);
     assert_eq!(bank.send(&[]), done(5));
-    assert_eq!(bank.send(&[]), refuse(11));
+    assert_eq!(bank.send(&[]), refuse(LENGTH_REACHED));
     assert_eq!(bank.finish(0, &mut []), done(0x500));
     started(&mut bank, &[0x110]);
     assert_eq!(bank.send(&[]), done(9));
@@ -460,8 +466,8 @@ fn receive_without_room() {
         assert_eq!(bank.receive(byte, &[]), done(0));
     }
     let before = bank.clone();
-    assert_eq!(bank.receive(19, &[]), refuse(13));
-    assert_eq!(bank.finish(0, &mut []), refuse(13));
+    assert_eq!(bank.receive(19, &[]), refuse(NO_ROOM));
+    assert_eq!(bank.finish(0, &mut []), refuse(NO_ROOM));
     assert_eq!(bank, before);
     assert_eq!(bank.read(0xe0), done(0x0001_0203));
     assert_eq!(bank.receive(19, &[]), done(0));
@@ -474,18 +480,18 @@ fn receive_without_room() {
 fn wrong_direction() {
     let mut bank = with_device();
     started(&mut bank, &[0x11]);
-    assert_eq!(bank.send(&[]), refuse(10));
-    assert_eq!(bank.receive(0, &[]), refuse(11));
+    assert_eq!(bank.send(&[]), refuse(NOT_THIS_KIND));
+    assert_eq!(bank.receive(0, &[]), refuse(LENGTH_REACHED));
     assert_eq!(bank.finish(0, &mut []), done(0));
     started(&mut bank, &[0x10]);
-    assert_eq!(bank.receive(0, &[]), refuse(10));
-    assert_eq!(bank.send(&[]), refuse(11));
+    assert_eq!(bank.receive(0, &[]), refuse(NOT_THIS_KIND));
+    assert_eq!(bank.send(&[]), refuse(LENGTH_REACHED));
     assert_eq!(bank.finish(0, &mut []), done(1));
     for first in [CCC | 0x500, CCC | 0x501] {
         let mut bank = released();
         started(&mut bank, &[first, 7]);
-        assert_eq!(bank.send(&[]), refuse(10));
-        assert_eq!(bank.receive(0, &[]), refuse(10));
+        assert_eq!(bank.send(&[]), refuse(NOT_THIS_KIND));
+        assert_eq!(bank.receive(0, &[]), refuse(NOT_THIS_KIND));
     }
     let mut bank = released();
     for answer in [
@@ -493,10 +499,10 @@ fn wrong_direction() {
         bank.receive(0, &[]),
         bank.finish(0, &mut []),
     ] {
-        assert_eq!(answer, refuse(7));
+        assert_eq!(answer, refuse(NO_TRANSFER));
     }
-    assert_eq!(bank.address_request(0, 0, &[]), refuse(7));
-    assert_eq!(bank.address_take(&[]), refuse(7));
+    assert_eq!(bank.address_request(0, 0, &[]), refuse(NO_TRANSFER));
+    assert_eq!(bank.address_take(&[]), refuse(NO_TRANSFER));
 }
 
 // Endings.
@@ -515,10 +521,10 @@ fn endings(words: &[u32], attached: bool, moved: usize) -> Vec<u8> {
         } else {
             bank.send(&[])
         };
-        assert_eq!(answer.number, 0);
+        assert_eq!(answer.number, DONE);
     }
     (0..=15)
-        .filter(|code| bank.clone().finish(*code, &mut []).number == 0)
+        .filter(|code| bank.clone().finish(*code, &mut []).number == DONE)
         .collect()
 }
 
@@ -584,9 +590,9 @@ fn finish_without_room() {
     started(&mut bank, &[PRIVATE_READ_5]);
     bank.receive(7, &[]);
     let before = bank.clone();
-    assert_eq!(bank.finish(0, &mut []), refuse(13));
-    assert_eq!(bank.finish(1, &mut []), refuse(14));
-    assert_eq!(bank.finish(16, &mut []), refuse(18));
+    assert_eq!(bank.finish(0, &mut []), refuse(NO_ROOM));
+    assert_eq!(bank.finish(1, &mut []), refuse(ENDING_NOT_ALLOWED));
+    assert_eq!(bank.finish(16, &mut []), refuse(OUT_OF_RANGE));
     assert_eq!(bank, before);
     assert_eq!(bank.read(0xd8), done(0));
     assert_eq!(bank.finish(0, &mut []), done(0x104));
@@ -601,20 +607,20 @@ fn finish_without_room() {
 fn interrupt_order() {
     let mut bank = with_device();
     started(&mut bank, &[0x10]);
-    assert_eq!(bank.interrupt_request(128, 0, &[]), refuse(18));
-    assert_eq!(bank.interrupt_request(8, 0, &[]), refuse(6));
+    assert_eq!(bank.interrupt_request(128, 0, &[]), refuse(OUT_OF_RANGE));
+    assert_eq!(bank.interrupt_request(8, 0, &[]), refuse(TRANSFER_OPEN));
     bank.finish(0, &mut []);
-    assert_eq!(bank.interrupt_request(8, 0, &[]), refuse(16));
+    assert_eq!(bank.interrupt_request(8, 0, &[]), refuse(NOT_HEARD));
     bank.write(0x140, 1);
-    assert_eq!(bank.interrupt_request(8, 0, &[]), refuse(16));
+    assert_eq!(bank.interrupt_request(8, 0, &[]), refuse(NOT_HEARD));
     bank.write(0x140, 2);
     bank.write(0x180, 0x1106);
-    assert_eq!(bank.interrupt_request(8, 0, &[]), refuse(17));
+    assert_eq!(bank.interrupt_request(8, 0, &[]), refuse(NOT_ACKNOWLEDGED));
     bank.write(0x140, 3);
     bank.write(0x180, 0x1104);
-    assert_eq!(bank.interrupt_request(8, 0, &[]), refuse(17));
+    assert_eq!(bank.interrupt_request(8, 0, &[]), refuse(NOT_ACKNOWLEDGED));
     bank.write(0x180, 0x110a);
-    assert_eq!(bank.interrupt_request(8, 0, &[]), refuse(17));
+    assert_eq!(bank.interrupt_request(8, 0, &[]), refuse(NOT_ACKNOWLEDGED));
     bank.write(0x180, 0x1106);
     for sync in 0..4 {
         assert_eq!(
@@ -622,7 +628,7 @@ fn interrupt_order() {
             done(0x0010_0000 | sync)
         );
     }
-    assert_eq!(bank.interrupt_request(8, 0xff, &[]), refuse(13));
+    assert_eq!(bank.interrupt_request(8, 0xff, &[]), refuse(NO_ROOM));
     assert_eq!(bank.read(0xe4), done(0x0010_0000));
     assert_eq!(bank.interrupt_request(8, 0xff, &[]), done(0x0010_0004));
     assert_eq!(bank.interrupt_sync, 5);
@@ -636,30 +642,30 @@ fn interrupt_order() {
 fn entdaa() {
     let codes = |bank: &Bank| -> Vec<u8> {
         (0..=15)
-            .filter(|code| bank.clone().finish(*code, &mut []).number == 0)
+            .filter(|code| bank.clone().finish(*code, &mut []).number == DONE)
             .collect()
     };
     let mut bank = released();
     started(&mut bank, &[CCC | 0x511, 0x107]);
     assert_eq!(codes(&bank), [0, 4]);
-    assert_eq!(bank.address_take(&[]), refuse(10));
+    assert_eq!(bank.address_take(&[]), refuse(NOT_THIS_KIND));
     assert_eq!(bank.address_request(0xaaaa_aaaa, 0x5555_5555, &[]), done(0));
     assert_eq!(value_at(&mut bank, 0x88), 0x85);
-    assert_eq!(bank.address_request(0, 0, &[]), refuse(10));
-    assert_eq!(bank.address_take(&[]), refuse(12));
+    assert_eq!(bank.address_request(0, 0, &[]), refuse(NOT_THIS_KIND));
+    assert_eq!(bank.address_take(&[]), refuse(SDO_EMPTY));
     assert_eq!(codes(&bank), []);
     bank.write(0xdc, 0x10ff_ffff);
     assert_eq!(value_at(&mut bank, 0x88), 0x01);
     assert_eq!(bank.address_take(&[]), done(8));
     assert_eq!(value_at(&mut bank, 0x88), 0x05);
     assert_eq!(codes(&bank), [0]);
-    assert_eq!(bank.address_take(&[]), refuse(10));
+    assert_eq!(bank.address_take(&[]), refuse(NOT_THIS_KIND));
     assert_eq!(bank.address_request(1, 2, &[]), done(0));
     assert_eq!(bank.write(0xdc, 0x1300_0000), done(0));
     assert_eq!(bank.address_take(&[]), done(9));
-    assert_eq!(bank.address_request(3, 4, &[]), refuse(13));
+    assert_eq!(bank.address_request(3, 4, &[]), refuse(NO_ROOM));
     assert_eq!(bank.read(0xe0), done(0xaaaa_aaaa));
-    assert_eq!(bank.address_request(3, 4, &[]), refuse(13));
+    assert_eq!(bank.address_request(3, 4, &[]), refuse(NO_ROOM));
     assert_eq!(bank.read(0xe0), done(0x5555_5555));
     assert_eq!(bank.finish(0, &mut []), done(0));
     assert_eq!(bank.read(0xe0), done(1));
@@ -675,20 +681,23 @@ fn pending_address() {
     bank.write(0xdc, 0x1200_0000);
     assert_eq!(bank.address_request(1, 2, &[]), done(0));
     assert_eq!(value_at(&mut bank, 0x88) & 0x80, 0);
-    let nineteen = |value| Answer { value, number: 19 };
-    assert_eq!(bank.address_take(&[]), nineteen(8));
+    let wrong_parity = |value| Answer {
+        value,
+        number: WRONG_PARITY,
+    };
+    assert_eq!(bank.address_take(&[]), wrong_parity(8));
     assert_eq!(value_at(&mut bank, 0x88) & 0x80, 0);
-    assert_eq!(bank.address_take(&[]), nineteen(9));
+    assert_eq!(bank.address_take(&[]), wrong_parity(9));
     assert_eq!(value_at(&mut bank, 0x88) & 0x80, 0x80);
-    assert_eq!(bank.finish(0, &mut []), refuse(14));
+    assert_eq!(bank.finish(0, &mut []), refuse(ENDING_NOT_ALLOWED));
     bank.write(0x84, 0x80);
     assert_eq!(value_at(&mut bank, 0x88) & 0x80, 0);
-    assert_eq!(bank.address_take(&[]), refuse(12));
+    assert_eq!(bank.address_take(&[]), refuse(SDO_EMPTY));
     bank.write(0xdc, 0);
-    assert_eq!(bank.address_take(&[]), nineteen(0));
+    assert_eq!(bank.address_take(&[]), wrong_parity(0));
     bank.write(0xdc, 0xfe00_0000);
     assert_eq!(bank.address_take(&[]), done(0x7f));
-    assert_eq!(bank.finish(4, &mut []), refuse(14));
+    assert_eq!(bank.finish(4, &mut []), refuse(ENDING_NOT_ALLOWED));
     assert_eq!(bank.finish(0, &mut []), done(0));
 }
 
@@ -698,8 +707,8 @@ fn address_events_need_entdaa() {
     for words in [&[0x10][..], &[0x1e], &[CCC, 6], &[CCC | 0x10, 0x87]] {
         let mut bank = with_device();
         started(&mut bank, words);
-        assert_eq!(bank.address_request(0, 0, &[]), refuse(10));
-        assert_eq!(bank.address_take(&[]), refuse(10));
+        assert_eq!(bank.address_request(0, 0, &[]), refuse(NOT_THIS_KIND));
+        assert_eq!(bank.address_take(&[]), refuse(NOT_THIS_KIND));
     }
     let mut bank = with_device();
     bank.write(0xdc, 0);
@@ -839,15 +848,15 @@ impl Count {
         } = *call
         {
             if self.released && self.room_seen {
-                assert_eq!(answer.number, 0, "written after a read of the room");
+                assert_eq!(answer.number, DONE, "written after a read of the room");
             }
             self.room_seen = false;
-            if answer.number == 0 {
+            if answer.number == DONE {
                 self.words.push(value);
             }
             return;
         }
-        if answer.number != 0 {
+        if answer.number != DONE {
             return;
         }
         match *call {
@@ -993,7 +1002,7 @@ fn check_well_formed(bank: &Bank) {
 
 #[test]
 fn random_calls_keep_demand_3() {
-    let mut seen = [false; 30];
+    let mut seen = [false; 1 + NOT_CARRIED as usize];
     let mut most_receipts = 0;
     let mut words_written = 0;
     for seed in 0..60 {
@@ -1031,7 +1040,7 @@ fn random_calls_keep_demand_3() {
                 words_written += 1;
             }
             seen[usize::from(answer.number)] = true;
-            if answer.number != 0 && answer.number != 19 {
+            if answer.number != DONE && answer.number != WRONG_PARITY {
                 assert_eq!(answer.value, 0);
                 assert_eq!(bank, before);
             }
@@ -1043,8 +1052,19 @@ fn random_calls_keep_demand_3() {
     }
     // Every number but those that need a bank or store not well formed, a set-up or
     // a trace.
-    let not_seen: Vec<usize> = (0..30).filter(|n| !seen[*n]).collect();
-    assert_eq!(not_seen, [21, 22, 23, 24, 25, 26, 27]);
+    let not_seen: Vec<u8> = (DONE..=NOT_CARRIED)
+        .filter(|number| !seen[usize::from(*number)])
+        .collect();
+    let expected = [
+        NOT_WELL_FORMED,
+        STORE_LENGTH,
+        SET_UP_OUT_OF_RANGE,
+        WRONG_MARK,
+        WRONG_TABLE,
+        NO_SUCH_SECTION,
+        WRONG_RECORD,
+    ];
+    assert_eq!(not_seen, expected);
     assert!(most_receipts > 0);
     assert!(words_written > 500);
 }

@@ -42,8 +42,8 @@ const HEADER: u32 = 0x0020_0000;
 
 // Set-up.
 
-/// 01: "Capacities: CMD and SDI 2 to 1,024, the others 1 to 1,024. A watermark is
-/// 0 to its queue's capacity; ID is 0 to 255."
+/// The least and the greatest of each number, and what lies next to them outside (01, 'The
+/// part of the controller we model').
 #[test]
 fn set_up_ranges() {
     let least = SetupNumbers {
@@ -77,7 +77,8 @@ fn set_up_ranges() {
     assert_eq!(set_up(&numbers).1, refuse(SET_UP_OUT_OF_RANGE));
 }
 
-/// 01: "a bank held in reset, registers and device table 0 but for ENABLE and ID".
+/// Nothing is stored but ENABLE and the ID; what is computed shows empty queues (01,
+/// 'Numbers that come back').
 #[test]
 fn registers_after_set_up() {
     let mut numbers = SESSION_NUMBERS;
@@ -117,7 +118,7 @@ fn registers_after_set_up() {
 
 // Accesses.
 
-/// 01, number 4: "offset not in the map, or not a multiple of 4".
+/// All 65,536 offsets: reads and writes know the same 53 (01, 'Register map').
 #[test]
 fn offsets_of_the_map() {
     let mut in_map = 0;
@@ -137,7 +138,7 @@ fn offsets_of_the_map() {
     }
 }
 
-/// 01, number 2: "write to a read-only register, dropped".
+/// Writes to them leave the bank as it was, in reset too (01, 'Register map').
 #[test]
 fn read_only_registers() {
     let offsets = [
@@ -152,7 +153,7 @@ fn read_only_registers() {
     }
 }
 
-/// 01: "Unnamed bits are ignored on write and read 0".
+/// All ones written; only the bits that the map names come back (01, 'Register map').
 #[test]
 fn kept_bits() {
     for mut bank in [fresh(), released()] {
@@ -177,8 +178,7 @@ fn kept_bits() {
     assert_eq!(bank.read(0x40), done(0));
 }
 
-/// 01: "0x2c0 to 0x2fc, 0x300 to 0x33c: sixteen offload commands, sixteen offload
-/// data words; all read and write".
+/// Thirty-two words, none of them another's (01, 'Register map').
 #[test]
 fn offload_memories() {
     let mut bank = fresh();
@@ -190,8 +190,7 @@ fn offload_memories() {
     }
 }
 
-/// 01, DEV_CHAR: "Every write selects the address; with bit 8 set it also stores
-/// the three flags."
+/// A write without bit 8 changes what is shown, not what is stored (01, 'Register map').
 #[test]
 fn device_table() {
     let mut bank = fresh();
@@ -205,7 +204,7 @@ fn device_table() {
     assert_eq!(bank.read(0x180), done(0x1004));
 }
 
-/// 01, number 5: "held in reset: CMD or SDO write, or any bus event".
+/// Which calls a reset refuses; 18 goes before that (01, 'Numbers that come back').
 #[test]
 fn held_in_reset() {
     let mut bank = fresh();
@@ -223,8 +222,8 @@ fn held_in_reset() {
     assert_eq!(bank, fresh());
 }
 
-/// 01, ENABLE: "Writing 1 resets queues, transfer, pending bits and syncs and holds
-/// them; other registers and the device table stay."
+/// A reset in the middle of all leaves a fresh bank with the registers that the driver
+/// wrote (01, 'Register map').
 #[test]
 fn reset_keeps_the_other_registers() {
     let mut bank = with_device();
@@ -266,7 +265,7 @@ fn reset_keeps_the_other_registers() {
     assert_eq!(bank.interrupt_request(9, 9, &[]), done(0x0012_0900));
 }
 
-/// 01, ENABLE: "once released it changes nothing."
+/// The second one leaves an open transfer (01, 'Register map').
 #[test]
 fn release_twice() {
     let mut bank = with_device();
@@ -279,8 +278,7 @@ fn release_twice() {
 
 // Interrupt sources.
 
-/// 01: "Source bits: 0 CMD level below its watermark; ... 2 SDO below". At the
-/// watermark the bit is 0.
+/// Source bits 0 and 2; at the watermark they are 0 (01, 'Register map').
 #[test]
 fn almost_empty() {
     let mut bank = released();
@@ -291,7 +289,7 @@ fn almost_empty() {
     assert_eq!(value_at(&mut bank, 0x88), 0x00);
 }
 
-/// 01: "1 CMDR above; ... 3 SDI above; 4 IBI above". At the watermark the bit is 0.
+/// Source bits 1, 3 and 4; at the watermark they are 0 (01, 'Register map').
 #[test]
 fn almost_full() {
     let mut bank = with_device();
@@ -311,8 +309,7 @@ fn almost_full() {
     assert_eq!(value_at(&mut bank, 0x100), 0);
 }
 
-/// 01: "IRQ_PENDING reads source AND mask; a 1 written to bits 5 to 7 clears that
-/// pending bit"; a masked bit too.
+/// The mask hides source bits; a 1 clears a stored one, hidden or not (01, 'Register map').
 #[test]
 fn pending_and_mask() {
     let mut bank = with_device();
@@ -330,7 +327,8 @@ fn pending_and_mask() {
     assert_eq!(value_at(&mut bank, 0xc4), 1);
 }
 
-/// 01: "A read that empties CMDR clears bit 5, IBI bit 6".
+/// The read of the last entry clears bit 5 or 6, an earlier one does not (01, 'Register
+/// map').
 #[test]
 fn emptying_reads_clear_pending() {
     let mut bank = with_device();
@@ -354,7 +352,7 @@ fn emptying_reads_clear_pending() {
 
 // Start.
 
-/// 01, Start: "5, 6, 8, 9, 15."
+/// Each refusal while those behind it would hold too (01, 'Bus events').
 #[test]
 fn start_order() {
     let mut bank = with_device();
@@ -375,8 +373,7 @@ fn start_order() {
     assert_eq!(value_at(&mut bank, 0xc0), 2);
 }
 
-/// 01: "a word written to CMD or SDO is queued whole"; Start: "value is its first
-/// word."
+/// Bits that mean nothing come back too (01, 'Register map', 'Bus events').
 #[test]
 fn start_gives_the_whole_first_word() {
     let mut bank = released();
@@ -385,8 +382,8 @@ fn start_gives_the_whole_first_word() {
     assert_eq!(value_at(&mut bank, 0x100), 0);
 }
 
-/// 01: "For a private transfer or direct CCC it notes whether the device is
-/// attached now."
+/// A device attached or detached later makes no difference; broadcasts and ENTDAA need none
+/// (01, 'Bus events').
 #[test]
 fn attached_is_noted_at_start() {
     let mut bank = with_device();
@@ -418,8 +415,8 @@ fn attached_is_noted_at_start() {
 
 // Payload.
 
-/// 01, Send: "A word leaves SDO with its first byte, and only there can 12 arise;
-/// bytes past the length are dropped."
+/// SDO loses a word with every fourth byte, from the first on; the next transfer begins
+/// with a new one (01, 'Bus events').
 #[test]
 fn send_takes_words() {
     let mut bank = with_device();
@@ -444,7 +441,7 @@ fn send_takes_words() {
     assert_eq!(bank.send(&[]), done(9));
 }
 
-/// 01: "After a write that was not acknowledged its data words stay in SDO."
+/// A failed write takes no word out of SDO (01, 'Bus events').
 #[test]
 fn not_acknowledged_write_keeps_sdo() {
     let mut bank = with_device();
@@ -454,7 +451,8 @@ fn not_acknowledged_write_keeps_sdo() {
     assert_eq!(value_at(&mut bank, 0xc8), 3);
 }
 
-/// 01, Receive: "13 only when that push has no room."
+/// Three bytes still come when SDI is full; the fourth, and a finish, need a place (01,
+/// 'Bus events').
 #[test]
 fn receive_without_room() {
     let mut bank = with_device();
@@ -475,7 +473,7 @@ fn receive_without_room() {
     assert_eq!(bank.finish(0, &mut []), done(0x1400));
 }
 
-/// 01, number 10: "a read or ENTDAA", "a write or ENTDAA"; tested before 11.
+/// Bytes against the direction, and in ENTDAA; 10 is tested before 11 (01, 'Bus events').
 #[test]
 fn wrong_direction() {
     let mut bank = with_device();
@@ -528,10 +526,10 @@ fn endings(words: &[u32], attached: bool, moved: usize) -> Vec<u8> {
         .collect()
 }
 
-/// 01, Finish: the whole list of endings but ENTDAA's.
+/// Every ending but ENTDAA's (01, 'Bus events').
 #[test]
 fn endings_allowed() {
-    // "device unattached, code 8 only."
+    // Not attached.
     for words in [
         &[0x210][..],
         &[0x211],
@@ -578,8 +576,8 @@ fn endings_allowed() {
     }
 }
 
-/// 01, Finish: "13 if a word to be pushed has no room; then nothing is pushed";
-/// Readings that look right: the sync is not raised by a refused finish.
+/// A refused finish pushes nothing and raises no sync (01, 'Bus events', 'Readings that
+/// look right').
 #[test]
 fn finish_without_room() {
     let mut bank = with_device();
@@ -601,8 +599,7 @@ fn finish_without_room() {
 
 // Interrupt requests.
 
-/// 01, Interrupt request: "5, 6, 16 (listen 0), 17 (enable 0, or not attached, or
-/// may not interrupt), 13."
+/// Each refusal in its turn (01, 'Bus events').
 #[test]
 fn interrupt_order() {
     let mut bank = with_device();
@@ -637,7 +634,7 @@ fn interrupt_order() {
 
 // Address assignment.
 
-/// 01: "ENTDAA, 0 with no request open, 4 with none made since start."
+/// Requests, takes and endings of one assignment (01, 'Bus events').
 #[test]
 fn entdaa() {
     let codes = |bank: &Bank| -> Vec<u8> {
@@ -672,7 +669,7 @@ fn entdaa() {
     assert_eq!(bank.read(0xe0), done(2));
 }
 
-/// 01: "7 set by an address request (and by answer 19) when SDO is then empty."
+/// Source bit 7 asks for a word only where none waits (01, 'Register map').
 #[test]
 fn pending_address() {
     let mut bank = released();
@@ -701,7 +698,7 @@ fn pending_address() {
     assert_eq!(bank.finish(0, &mut []), done(0));
 }
 
-/// 01, Address request and take: "10 (not ENTDAA ...)"; 0x87 is not ENTDAA.
+/// Other transfers refuse them by 10; 0x87 is no ENTDAA (01, 'Bus events').
 #[test]
 fn address_events_need_entdaa() {
     for words in [&[0x10][..], &[0x1e], &[CCC, 6], &[CCC | 0x10, 0x87]] {
@@ -804,7 +801,7 @@ fn random_call(random: &mut Random) -> Call {
     }
 }
 
-/// 01, What demand 3 counts: "All is counted from the calls and their answers".
+/// What calls and answers tell, without a look into the bank (01, 'What demand 3 counts').
 #[derive(Default)]
 struct Count {
     released: bool,
@@ -816,13 +813,12 @@ struct Count {
     receipts_read: Vec<u32>,
     room_seen: bool,
     offload_length: u32,
-    /// 02: "demand 3 speaks of direct commands only".
+    /// Transfers of a burst that are still to come; demand 3 leaves them out (02 §3).
     burst_left: u32,
 }
 
 impl Count {
-    /// "a word with bit 22 set and the next are one command, any other word is
-    /// one."
+    /// One word each, two for a CCC.
     fn commands(&self) -> Vec<Vec<u32>> {
         let mut commands = Vec::new();
         let mut rest = self.words.as_slice();
@@ -848,7 +844,7 @@ impl Count {
         } = *call
         {
             if self.released && self.room_seen {
-                assert_eq!(answer.number, DONE, "written after a read of the room");
+                assert_eq!(answer.number, DONE, "room was read, word refused");
             }
             self.room_seen = false;
             if answer.number == DONE {
@@ -916,8 +912,7 @@ impl Count {
         self.moved += 1;
     }
 
-    /// "its sync the number of earlier receipts modulo 256, its length the payload
-    /// bytes moved for it, never above the commanded length."
+    /// The whole receipt is known from the calls before it (00, demand 3).
     fn note_finish(&mut self, code: u8, receipt: u32) {
         assert!(self.open);
         self.open = false;
@@ -959,7 +954,7 @@ fn is_entdaa(command: &[u32]) -> bool {
     command.len() == 2 && command[1] & 0xff == 7
 }
 
-/// 01 and 02, Well formed, as far as this engine has the parts.
+/// Well formed, as far as this engine has the parts (01, 'Numbers that come back'; 02 §3).
 fn check_well_formed(bank: &Bank) {
     for queue in [&bank.cmd, &bank.cmdr, &bank.sdo, &bank.sdi, &bank.ibi] {
         assert!(queue.level() <= queue.capacity);
@@ -979,9 +974,8 @@ fn check_well_formed(bank: &Bank) {
         assert!(transfer.attached || moved == 0);
         let (left, gathered) = (transfer.left.len() as u32, transfer.gathered.len() as u32);
         if let Some(place) = transfer.burst_place {
-            // 02: "an open burst pass 8, 28 and 29 and stand at one of its commands,
-            // with that one's transfer open and its counts as that place says, a
-            // read's up to 4 bytes all gathered".
+            // The trigger would not refuse it, the transfer is its command's, and a read
+            // keeps every byte.
             let commands = bank.burst_commands();
             assert!(bank.is_in_offload_mode());
             assert!(commands.iter().all(|word| is_carried(*word)));

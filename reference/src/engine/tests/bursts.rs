@@ -1,4 +1,4 @@
-//! Tests of offload bursts. 02 is section 3 of the change requests.
+//! Tests of offload bursts (02 §3).
 
 use super::*;
 
@@ -68,8 +68,8 @@ fn assert_refused(bank: &mut Bank, call: &Call, output: &mut [u32], number: u8) 
     assert_eq!(output, output_before);
 }
 
-/// 02: the whole of a burst by hand. Data words go to the writes in turn, so the
-/// second write, which is the third command, has the second word.
+/// The whole of a burst by hand. Data words go to the writes in turn, so the second write,
+/// which is the third command, has the second word.
 #[test]
 fn a_worked_burst() {
     let commands = [
@@ -114,12 +114,11 @@ fn a_worked_burst() {
     assert_eq!(value_at(&mut bank, 0x100), 0x89);
     assert_eq!(bank.finish(0, &mut output), refuse(NO_TRANSFER));
 
-    // 02: "queue no receipt", "use no sync"; nothing else moved.
+    // No receipt, no sync, nothing in the queues.
     assert_eq!(bank, ready(&commands, &data));
 }
 
-/// 02: "the last finish ... closes it"; the next trigger begins at the first
-/// command and the first data word.
+/// After the last finish a trigger begins at the first command and the first data word.
 #[test]
 fn bursts_one_after_another() {
     let mut bank = ready(&[READ | length(1), WRITE | length(1)], &[0x7700_0000]);
@@ -134,8 +133,7 @@ fn bursts_one_after_another() {
     }
 }
 
-/// 02: "Only private commands of length at most 4 are carried"; each direction,
-/// length and count of bytes.
+/// Each direction, length and count of bytes that a burst can have.
 #[test]
 fn lengths_0_to_4() {
     let padded = [0, 0xa000_0000, 0xa0a1_0000, 0xa0a1_a200, 0xa0a1_a2a3];
@@ -163,7 +161,7 @@ fn lengths_0_to_4() {
     }
 }
 
-/// 02: "a burst over the first `offload length` words".
+/// From one command to fifteen; the output must have a word for each read.
 #[test]
 fn each_length_of_a_burst() {
     for count in 1..=15 {
@@ -224,8 +222,7 @@ fn a_write_without_bytes_has_its_data_word() {
 
 // Refusals.
 
-/// 02: "5 and 6 as for start, then 8 when mode is 0, 28 length field 0, 29 a command
-/// not carried, 13 output shorter than the reads".
+/// Each refusal while those behind it would hold too.
 #[test]
 fn trigger_order() {
     let trigger = &Call::Trigger;
@@ -262,7 +259,7 @@ fn trigger_order() {
     assert_eq!(bank.trigger(&[UNTOUCHED; 2]), done(0));
 }
 
-/// 02: "Only private commands of length at most 4 are carried."
+/// A CCC or a longer length, at each place of the burst.
 #[test]
 fn commands_not_carried() {
     for word in [
@@ -284,8 +281,8 @@ fn commands_not_carried() {
     assert_eq!(bank.trigger(&[]), done(0));
 }
 
-/// 02: 13 "at each event in an open burst too, after 18", the trigger too; the
-/// burst's reads count whole, also those that have finished.
+/// With too short an output no event works, the trigger included; reads that have finished
+/// still count. 18 goes before that.
 #[test]
 fn each_event_wants_the_output() {
     let mut output = [UNTOUCHED; 2];
@@ -352,7 +349,7 @@ fn refused_events_in_a_burst() {
     assert_eq!(bank.start(&output), refuse(NOT_IN_THIS_MODE));
 }
 
-/// 02: "writes to OPS and both offload memories are dropped whole (6, after 4)".
+/// OPS and the offload memories refuse every write in a burst, and no other register does.
 #[test]
 fn locked_registers() {
     let mut bank = triggered(&[WRITE], &[], &[]);
@@ -387,7 +384,7 @@ fn locked_registers() {
 
 // What a burst does along its way.
 
-/// 02: "an error code doesn't stop it". A read that got nothing has a word too.
+/// The burst goes on after each of them. A read that got nothing has a word too.
 #[test]
 fn error_codes_in_the_middle() {
     let commands = [
@@ -412,7 +409,7 @@ fn error_codes_in_the_middle() {
     assert_eq!(value_at(&mut bank, 0x100) >> 7, 1);
 }
 
-/// 02: "or a reset closes it", without a word for the open read.
+/// A reset ends the burst without a word for the open read.
 #[test]
 fn reset_in_the_middle() {
     let commands = [READ | length(2), READ | length(2), WRITE];
@@ -442,8 +439,7 @@ fn reset_in_the_middle() {
     assert_eq!(bank.trigger(&output), refuse(TRANSFER_OPEN));
 }
 
-/// 02: "each noting attachment then": DEV_CHAR between two transfers counts for the
-/// next one, within a transfer for none.
+/// A write to DEV_CHAR counts for the transfers that open after it, not for the open one.
 #[test]
 fn attachment_is_noted_as_each_transfer_opens() {
     let commands = [

@@ -4,8 +4,7 @@ use super::clause::{Clause, Findings};
 use crate::engine::Answer;
 use crate::number::DONE;
 
-/// 00: "Every command word written after a read of the room above 0, made since the
-/// release, with no other command word written between, was taken."
+/// Room above 0 is a place for one word, up to the next write to CMD (00, demand 3).
 #[derive(Debug)]
 pub struct RoomReads {
     /// The room was read above 0 and no command word was written since.

@@ -1,8 +1,7 @@
 //! The count of demand 3 over the calls from a release to the next reset.
 //!
-//! Every beginning of a script that ends after a release and before the next
-//! reset is a list of calls of its own, so each call is judged when it comes. What
-//! is expected comes from the calls and answers before it, never from a model.
+//! Demand 3 holds for each beginning of a script, so each call is judged when it comes.
+//! What is expected comes from the calls and answers before it, never from a model.
 
 use super::clause::Findings;
 use super::command::Kind;
@@ -13,7 +12,7 @@ use super::waiting::Commands;
 use crate::engine::{Answer, Call, SetupNumbers, SESSION_NUMBERS};
 use crate::number::{DONE, EMPTY, NO_COMMAND, SDO_NOT_EMPTY};
 
-// 01, Register map.
+// 01, 'Register map'.
 const ENABLE: u16 = 0x040;
 const CMD_ROOM: u16 = 0x0c0;
 const CMDR_LEVEL: u16 = 0x0c4;
@@ -48,8 +47,6 @@ impl Stretch {
             Call::Write { .. } => {}
             Call::Read { offset } => self.read(offset, answer, findings),
             Call::Start => self.start(answer, findings),
-            // 01: "sends are answered 0 only for a write, receives only for a read,
-            // address requests and takes only for ENTDAA".
             Call::Send => self.event(Kind::Write, 1, answer, findings),
             Call::Receive { .. } => self.event(Kind::Read, 1, answer, findings),
             Call::AddressRequest { .. } | Call::AddressTake => {
@@ -162,7 +159,7 @@ impl Count {
                     stretch.transfers.trigger(self.offload_length);
                 }
             }
-            // 01: "Only calls after the list's last release count."
+            // In reset nothing counts.
             _ => {
                 if let Some(stretch) = &mut self.stretch {
                     stretch.judge_call(call, answer, &mut self.findings);
@@ -171,8 +168,8 @@ impl Count {
         }
     }
 
-    /// 01: "A reset is a write to ENABLE answered 0 with bit 0 set; a release is the
-    /// first one with bit 0 clear since set-up or a reset."
+    /// A write to ENABLE that was answered 0. Bit 0 set is a reset; the first one clear
+    /// after that, or after set-up, is the release (01, 'What demand 3 counts').
     fn enable(&mut self, value: u32) {
         if value & 1 == 1 {
             self.stretch = None;

@@ -141,8 +141,7 @@ fn a_start_refused_with_15_although_no_entdaa_waits() {
     assert_broken(&session, &[(Clause::RestWaits, start)]);
 }
 
-/// 01, Readings that look right: "Room taken from words ever written, so freed
-/// places are never used again."
+/// A wrong reading: a place that a start frees stays used (01, 'Readings that look right').
 #[test]
 fn a_room_that_counts_words_ever_written() {
     let mut session = long_session();
@@ -342,8 +341,8 @@ fn a_sync_kept_over_a_reset() {
     assert_broken(&session, &[(Clause::ReceiptSync, finish)]);
 }
 
-/// 01, Readings that look right: "Sync raised before the room test at the finish, so
-/// that a finish refused with 13 and tried again counts twice."
+/// A wrong reading: a finish answered 13 has used up a sync (01, 'Readings that look
+/// right').
 #[test]
 fn a_sync_raised_by_a_refused_finish() {
     let mut session = long_session();

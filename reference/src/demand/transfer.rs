@@ -9,8 +9,7 @@ use crate::number::{DONE, NO_TRANSFER, TRANSFER_OPEN};
 pub struct Transfer {
     /// Unknown after a start that was not the next command's.
     pub command: Option<Command>,
-    /// 01: "Bytes moved for a command: the sends and receives answered 0 while it
-    /// was open."
+    /// Sends and receives answered 0 so far.
     pub moved: u64,
 }
 
@@ -24,14 +23,13 @@ fn number_text(answer: Answer) -> String {
 pub struct Transfers {
     open: Option<Transfer>,
     started: u64,
-    /// Transfers of the open burst that have not finished. 02: "demand 3 speaks of
-    /// direct commands only": their events count for none.
+    /// Transfers of the open burst that have not finished. Demand 3 leaves bursts out, so
+    /// that their events count for nothing (02 §3).
     burst_left: u32,
 }
 
 impl Transfers {
-    /// A start answered 0. 00: "All that started have finished, save the last while
-    /// it is open."
+    /// A start answered 0; the command before it must have finished.
     pub fn start(&mut self, command: Option<Command>, findings: &mut Findings) {
         let number = self.started;
         findings.judge(Clause::OneOpen, self.open.is_none(), || {
@@ -86,7 +84,7 @@ impl Transfers {
         in_burst
     }
 
-    /// 01: "It is open until the next finish answered 0, which finishes it."
+    /// A finish answered 0; gives the transfer that it ends.
     pub fn finish(&mut self) -> Option<Transfer> {
         self.open.take()
     }
@@ -100,7 +98,7 @@ impl Transfers {
         }
     }
 
-    /// 01, Register map: OPS "bit 7 read-only, 1 when no transfer is open".
+    /// A read of OPS, whose bit 7 is clear while a transfer is open (01, 'Register map').
     pub fn ops(&self, value: u32, findings: &mut Findings) {
         if value >> 7 & 1 == 1 {
             self.said_not_open("bit 7 set", findings);

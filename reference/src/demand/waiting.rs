@@ -23,8 +23,7 @@ impl Commands {
         }
     }
 
-    /// 01: "The queue took the words of the CMD writes answered 0, in order." More
-    /// than its capacity can't wait in it.
+    /// A write to CMD that was answered 0. More words than its capacity can't wait in it.
     pub fn word_taken(&mut self, word: u32, findings: &mut Findings) {
         let Some(waiting) = &mut self.waiting else {
             return;
@@ -37,7 +36,8 @@ impl Commands {
         });
     }
 
-    /// 01, Register map: "room is capacity less level".
+    /// A read of the room: with the words that wait it makes up the capacity (01, 'Register
+    /// map').
     pub fn room(&self, room: u32, findings: &mut Findings) {
         let Some(waiting) = &self.waiting else {
             return;
@@ -50,8 +50,8 @@ impl Commands {
         });
     }
 
-    /// 01: "The n-th start answered 0 starts the n-th command; its value is that
-    /// command's first word." Gives the command if it is that one.
+    /// A start answered 0. Gives the command that was its turn, if the value is that one's
+    /// first word.
     pub fn start(&mut self, value: u32, findings: &mut Findings) -> Option<Command> {
         self.started += 1;
         let number = self.started;
@@ -72,7 +72,7 @@ impl Commands {
         command
     }
 
-    /// 01, number 9: "no whole command waits".
+    /// A start refused by 9 says that nothing whole waits.
     pub fn refused_without_command(&self, findings: &mut Findings) {
         let Some(waiting) = &self.waiting else {
             return;
@@ -84,8 +84,7 @@ impl Commands {
         });
     }
 
-    /// 01, number 15: "SDO not empty at ENTDAA start": the first command that waits
-    /// is ENTDAA.
+    /// A start refused by 15 says that the first command that waits is ENTDAA.
     pub fn refused_for_sdo(&self, findings: &mut Findings) {
         let Some(waiting) = &self.waiting else {
             return;

@@ -109,7 +109,7 @@ fn the_form_byte_by_byte() {
     assert_eq!(check(bytes), DONE);
 }
 
-/// 02: "24 mark wrong or cut short, 25 ... file ... too short or too long".
+/// Within the mark a cut is 24, behind it 25; so is each byte too many.
 #[test]
 fn cut_at_each_byte_or_too_long() {
     let mut bytes = small_trace();
@@ -137,7 +137,7 @@ fn each_header_byte_changed() {
     }
 }
 
-/// 02: 27 belongs to the replay.
+/// Only a replay tells wrong records.
 #[test]
 fn the_check_looks_at_no_record() {
     let mut bytes = small_trace();
@@ -145,7 +145,7 @@ fn the_check_looks_at_no_record() {
     assert_eq!(check(&bytes), DONE);
 }
 
-/// 02: "in that order".
+/// Where both are wrong the mark decides.
 #[test]
 fn mark_before_contents() {
     assert_eq!(check(b""), WRONG_MARK);
@@ -160,7 +160,7 @@ fn mark_before_contents() {
     assert_eq!(check(&bytes), WRONG_MARK);
 }
 
-/// 02: "a 16-bit section count (1 to 64)".
+/// From 1 to 64, the low byte first.
 #[test]
 fn count_of_sections() {
     for sections in 0..=300_usize {
@@ -179,7 +179,7 @@ fn count_of_sections() {
     assert_eq!(check(&bytes), WRONG_TABLE);
 }
 
-/// 02: "sections, numbered from 0, follow in order with no gaps".
+/// Each section begins where the one before it ends.
 #[test]
 fn gaps_and_order() {
     // A gap of one record between the two sections, the file being as long.
@@ -242,8 +242,8 @@ fn most_records(sections: usize) -> usize {
     (MOST_FILE_BYTES as usize - 6 - 8 * sections) / 12
 }
 
-/// 02: "file above 16 MiB". A trace has 6 bytes and a multiple of 4, so none has 16 MiB
-/// itself: the longest have 2 bytes less, the shortest too long ones 2 more.
+/// A trace has 6 bytes and a multiple of 4, so none has 16 MiB itself: the longest have 2
+/// bytes less, the shortest too long ones 2 more.
 #[test]
 fn the_longest_files() {
     let mut bytes = head(&[most_records(1) as u32]);
@@ -266,7 +266,7 @@ fn the_longest_files() {
 
 // Sections.
 
-/// 02: "hands back that stretch of the caller's own bytes, uncopied".
+/// No copy: the same memory.
 #[test]
 fn a_section_is_the_callers_own_bytes() {
     let bytes = small_trace();
@@ -277,7 +277,7 @@ fn a_section_is_the_callers_own_bytes() {
     }
 }
 
-/// 02: "empty if refused"; "24 ..., 25 ..., 26 no such section ...; in that order".
+/// They have no bytes; 24 and 25 go before 26.
 #[test]
 fn sections_that_there_are_not() {
     let mut bytes = small_trace();
@@ -336,7 +336,7 @@ fn a_record_is_the_call_of_its_line() {
     }
 }
 
-/// 02: "27 record wrong (letter ...".
+/// Nine of 256 bytes are one.
 #[test]
 fn letters() {
     for letter in 0..=255 {
@@ -358,7 +358,8 @@ fn free_bytes(letter: u8) -> &'static [usize] {
     }
 }
 
-/// 02: "zero parts, or a byte, address or code above 255": each bit of each byte.
+/// Each bit of each byte changed: fields that the letter uses may have any value, others
+/// none but 0.
 #[test]
 fn each_other_byte_of_a_record() {
     for line in GREATEST.iter().chain(&MIXED) {
@@ -375,8 +376,7 @@ fn each_other_byte_of_a_record() {
     }
 }
 
-/// 02: "a byte, address or code above 255"; 255 itself is right, and 01 answers 18 to
-/// the code and the address.
+/// 255 itself makes a right record, though the bank answers 18 to such a code or address.
 #[test]
 fn bytes_above_255() {
     for letter in [b'X', b'F', b'I'] {
@@ -405,8 +405,7 @@ fn one_by_one(calls: &[Call]) -> (Vec<Answer>, Bank) {
 
 const WORKED: &str = "W 40 0, W 180 1102, W dc a5c30000, W d4 210, S, T, T, F 0, R d8, R d8";
 
-/// 02: "stops after a stated number of records, and gives its number, how many it did
-/// and the last one's answer (0, 0 if it did none)".
+/// From none to more than there are; the rest is as if the calls had come one by one.
 #[test]
 fn a_stated_number_of_records() {
     let calls = calls(WORKED);
@@ -425,7 +424,7 @@ fn a_stated_number_of_records() {
     }
 }
 
-/// 02: "Replay of a section": of that one alone.
+/// The records of the others are not done.
 #[test]
 fn each_section_by_itself() {
     let bytes = small_trace();
@@ -473,7 +472,7 @@ fn refused_before_the_first_record() {
     assert_eq!(bank, session_bank());
 }
 
-/// 02: "27 record wrong ..., where replay stops with the earlier records done".
+/// The replay does the records before it and stops there.
 #[test]
 fn a_wrong_record_among_right_ones() {
     let calls = calls(WORKED);
@@ -502,7 +501,7 @@ fn a_wrong_record_among_right_ones() {
     }
 }
 
-/// 02: "the rule that a refusal changes nothing holds for each record by itself".
+/// The record counts, and the next one is done.
 #[test]
 fn refusals_and_19_do_not_stop() {
     let session = "S, R 1, W 0 0, W 40 0, T, F 10, W d4 400000, S, W d4 7, S, D 1 2, \
@@ -559,8 +558,7 @@ fn on_a_bank_that_is_not_well_formed() {
     assert_eq!(bank, before);
 }
 
-/// 02, section 3: "13 output shorter than the reads (at each event in an open burst
-/// too, after 18; replay lends an empty one)".
+/// A burst that reads needs an output, and a replay has none to lend (02 §3).
 #[test]
 fn in_an_open_burst() {
     let open_burst = |command: u32| {

@@ -44,8 +44,7 @@ fn the_worked_session() {
     assert_eq!(run(&trace(&[records_of(WORKED)])[..]), expected);
 }
 
-/// 02: "replays all sections of standard input in order on the session's bank": one
-/// bank for all of them.
+/// All sections have one bank, so that it makes no difference where they are cut.
 #[test]
 fn sections_in_order() {
     let records = records_of(WORKED);
@@ -62,7 +61,7 @@ fn whole_records(length: usize) -> usize {
     length.saturating_sub(22) / 12
 }
 
-/// 02: "It answers a wrong length when it meets it, after the records before".
+/// The records that are whole are done first.
 #[test]
 fn cut_at_each_byte() {
     let bytes = small_trace();
@@ -169,7 +168,7 @@ fn sums_above_32_bits_at_once() {
     assert_eq!(run(&head(&[u32::MAX; 64])[..]), fault(WRONG_TABLE));
 }
 
-/// 02: for 27 "one with value 0, and ends": what follows is not looked at.
+/// What follows is not looked at.
 #[test]
 fn a_wrong_record() {
     for place in 0..5 {
@@ -334,7 +333,8 @@ fn an_output_that_is_full() {
     assert!(run_replay(&bytes[..3], &mut Full { left: 11 }).is_err());
 }
 
-/// 02: "at once if the table asks for more than 16 MiB".
+/// A table that asks for too much is refused before the first record, whatever the file's
+/// length is.
 #[test]
 fn the_longest_files() {
     let right = record(b'S', 0, 0, 0);

@@ -371,7 +371,7 @@ impl Transfer {
             return code == 8;
         }
         match self.command.kind {
-            // With 4 nobody was there, so that none can have made a request.
+            // Code 4: no device answered, so that none made a request.
             Kind::Entdaa { open, made } => match code {
                 0 => !open,
                 4 => !made,
@@ -390,9 +390,10 @@ impl Transfer {
         match code {
             // All bytes moved; a private read may also end early.
             0 => all_moved || (self.command.is_read && !ccc),
-            // A CCC read ended early.
+            // A CCC read ended early (004).
             1 => self.command.is_read && ccc && !all_moved,
-            // Nobody acknowledged the broadcast address, with which CCCs and headers begin.
+            // No device acknowledged the broadcast address, with which a CCC or a header
+            // begins (004).
             4 => none_moved && (ccc || header),
             // The device did not acknowledge; a broadcast has none.
             6 => none_moved && !broadcast,
@@ -401,8 +402,8 @@ impl Transfer {
     }
 }
 
-/// Up to four bytes as a word, the first one on top, zeros below the last (01, 'Commands
-/// and receipts', 'Bus events').
+/// Up to four bytes as a word, the first one in bits 31:24, zeros behind the last (01,
+/// 'Commands and receipts', 'Bus events').
 fn word_of_bytes(bytes: &[u8]) -> u32 {
     let mut padded = [0; 4];
     padded[..bytes.len()].copy_from_slice(bytes);
@@ -585,7 +586,7 @@ impl Bank {
             | u32::from(device.attached) << 1
     }
 
-    /// With the last receipt its pending bit goes (01, 'Register map').
+    /// The read of the last receipt clears source bit 5 (01, 'Register map').
     fn read_cmdr(&mut self) -> Answer {
         let Some(word) = self.cmdr.take() else {
             return refuse(EMPTY);
@@ -603,7 +604,7 @@ impl Bank {
         }
     }
 
-    /// With the last interrupt its pending bit goes (01, 'Register map').
+    /// The read of the last entry clears source bit 6 (01, 'Register map').
     fn read_ibi(&mut self) -> Answer {
         let Some(word) = self.ibi.take() else {
             return refuse(EMPTY);
@@ -658,7 +659,7 @@ impl Bank {
         done(0)
     }
 
-    /// A word for the bus ends the call for an address, source bit 7 (01, 'Register map').
+    /// A word that is queued clears source bit 7 (01, 'Register map').
     fn write_sdo(&mut self, word: u32) -> Answer {
         if self.in_reset {
             return refuse(HELD_IN_RESET);
@@ -798,8 +799,8 @@ impl Bank {
     }
 
     /// Gives the next byte of a write. Every fourth time, from the first on, it needs a new
-    /// word of SDO; what the last word has past the length goes with the transfer (01, 'Bus
-    /// events'). In a burst the bytes lie ready.
+    /// word of SDO; what the last word has past the length is never sent (01, 'Bus events').
+    /// In a burst the bytes lie ready.
     pub(crate) fn send(&mut self, output: &[u32]) -> Answer {
         if !self.is_well_formed() {
             return refuse(NOT_WELL_FORMED);

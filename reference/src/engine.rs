@@ -172,7 +172,7 @@ enum Register {
     OffloadData(usize),
 }
 
-/// None where the offset is refused by 4 (01, 'Register map').
+/// None where the offset is `NO_REGISTER` (01, 'Register map').
 fn register_at(offset: u16) -> Option<Register> {
     if offset % 4 != 0 {
         return None;
@@ -206,8 +206,8 @@ fn register_at(offset: u16) -> Option<Register> {
     Some(register)
 }
 
-/// The registers that refuse writes by 2; CMDR, SDI and IBI do, though a read of them
-/// takes a word (01, 'Register map').
+/// The registers that drop writes (`DROPPED_READ_ONLY`); CMDR, SDI and IBI do, though a read
+/// of them takes a word (01, 'Register map').
 fn is_read_only(register: Register) -> bool {
     matches!(
         register,
@@ -508,8 +508,8 @@ impl Bank {
         self.numbers.in_range()
     }
 
-    // Accesses. The order of their numbers: 01, 'Numbers that come back', with 6 behind 4
-    // in a burst (02 §3).
+    // Accesses. The order of their numbers: 01, 'Numbers that come back', with
+    // `TRANSFER_OPEN` behind `NO_REGISTER` in a burst (02 §3).
 
     pub(crate) fn read(&mut self, offset: u16) -> Answer {
         if !self.is_well_formed() {
@@ -726,8 +726,9 @@ impl Bank {
         }
     }
 
-    // Bus events. The order of their numbers: 21, 18, then 13 for the output of an open
-    // burst (02 §3), then each event's own (01, 'Bus events').
+    // Bus events. The order of their numbers: `NOT_WELL_FORMED`, `OUT_OF_RANGE`, then
+    // `NO_ROOM` for the output of an open burst (02 §3), then each event's own (01, 'Bus
+    // events').
 
     /// Opens the transfer of the command that waits first, and shows its first word (01,
     /// 'Bus events').

@@ -119,8 +119,8 @@ fn all_clear_in_reset(bank: &Bank) -> bool {
 
 // 02 §3.
 
-/// An open burst is one that a trigger would not refuse for its mode (8), for a length
-/// of 0 (28), or for a command that is a CCC or longer than 4 bytes (29).
+/// An open burst is one that a trigger would not refuse for its mode, for a length of 0, or
+/// for a command that is a CCC or longer than 4 bytes.
 fn burst_passes_trigger(bank: &Bank) -> bool {
     let commands = bank.burst_commands();
     let mode = bank.ops & 1;

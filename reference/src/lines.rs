@@ -504,7 +504,7 @@ mod tests {
 
     /// The bank of a refused set-up is not well formed, up to the next set-up.
     #[test]
-    fn after_23_every_call_is_21() {
+    fn after_a_refused_set_up_every_call_is_refused() {
         let input =
             b"B 0 0 0 0 0 0 0 0 0 0 0\nR 0\nR 1\nW 40 0\nS\nT\nX 0\nF 10\nI 80 0\nD 0 0\nA\nG\n\
                       B 4 4 4 4 4 1 3 1 3 3 0\nR 40\n";

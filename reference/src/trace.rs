@@ -43,7 +43,7 @@ fn entries(table: &[u8]) -> impl Iterator<Item = Entry> + '_ {
 }
 
 /// How many bytes the contents have after the head, which may be cut short and may
-/// have more behind it: within the mark that is 24, behind it 25.
+/// have more behind it: within the mark that is `WRONG_MARK`, behind it `WRONG_TABLE`.
 fn table_bytes(head: &[u8]) -> Result<usize, u8> {
     let behind_mark = head.strip_prefix(MARK).ok_or(WRONG_MARK)?;
     let [low, high, ..] = *behind_mark else {
@@ -81,7 +81,7 @@ fn contents(trace: &[u8]) -> Result<&[u8], u8> {
     Ok(table)
 }
 
-/// 24 or 25 for a whole file, 0 if it is a trace. As with the other calls for a whole
+/// The number of a whole file: `DONE` if it is a trace. As with the other calls for a whole
 /// file, only tests have one, those of `bench/` too: the program meets its length last.
 pub fn check(trace: &[u8]) -> u8 {
     contents(trace).err().unwrap_or(DONE)

@@ -43,7 +43,7 @@ impl Receipts {
         }
     }
 
-    /// A finish answered 0; its value is the receipt.
+    /// A finish answered `DONE`; its value is the receipt.
     pub fn finish(
         &mut self,
         code: u8,
@@ -86,7 +86,7 @@ impl Receipts {
         });
     }
 
-    /// A CMDR read answered 0 gives the oldest receipt that was not read.
+    /// A CMDR read answered `DONE` gives the oldest receipt that was not read.
     pub fn read(&mut self, receipt: Receipt, findings: &mut Findings) {
         self.read += 1;
         let number = self.read;
@@ -107,7 +107,7 @@ impl Receipts {
         }
     }
 
-    /// A CMDR read answered 3. After it CMDR is taken to be empty, so that one lost receipt
+    /// A CMDR read answered `EMPTY`. After it CMDR is taken to be empty, so that one lost receipt
     /// is reported once.
     pub fn read_refused(&mut self, findings: &mut Findings) {
         self.said_empty(true, &format!("{EMPTY:02}"), findings);

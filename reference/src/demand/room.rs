@@ -25,7 +25,7 @@ impl RoomReads {
         self.read_above_0 |= room > 0;
     }
 
-    /// A command word was written; it was taken if it was answered 0.
+    /// A command word was written; it was taken if it was answered `DONE`.
     pub fn word_written(&mut self, word: u32, answer: Answer, findings: &mut Findings) {
         let after_read = self.read_above_0;
         // A word that was refused was written too.

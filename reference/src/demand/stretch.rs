@@ -135,8 +135,8 @@ impl Count {
         }
     }
 
-    /// A set-up ends the list and gives the next one its fresh bank. After 23 no
-    /// release is answered 0.
+    /// A set-up ends the list and gives the next one its fresh bank. After a refused one no
+    /// release is answered `DONE`.
     pub fn set_up(&mut self, numbers: &SetupNumbers) {
         self.capacities = numbers.capacities;
         self.offload_length = 0;
@@ -168,7 +168,7 @@ impl Count {
         }
     }
 
-    /// A write to ENABLE that was answered 0. Bit 0 set is a reset; the first one clear
+    /// A write to ENABLE that was answered `DONE`. Bit 0 set is a reset; the first one clear
     /// after that, or after set-up, is the release (01, 'What demand 3 counts').
     fn enable(&mut self, value: u32) {
         if value & 1 == 1 {

@@ -126,7 +126,7 @@ fn a_command_from_before_the_reset() {
 }
 
 #[test]
-fn a_start_refused_with_9_although_a_command_waits() {
+fn a_start_without_command_although_one_waits() {
     let mut session = long_session();
     let start = session.find(transfer(&session, "direct CCC", 7), "S", DONE);
     session.insert(start, "S", 0, NO_COMMAND);
@@ -134,7 +134,7 @@ fn a_start_refused_with_9_although_a_command_waits() {
 }
 
 #[test]
-fn a_start_refused_with_15_although_no_entdaa_waits() {
+fn a_start_refused_for_sdo_although_no_entdaa_waits() {
     let mut session = long_session();
     let start = session.find(transfer(&session, "direct CCC", 7), "S", DONE);
     session.insert(start, "S", 0, SDO_NOT_EMPTY);
@@ -201,7 +201,7 @@ fn a_start_before_the_finish() {
 }
 
 #[test]
-fn a_start_refused_with_6_although_all_finished() {
+fn a_start_with_a_transfer_open_although_all_finished() {
     let mut session = long_session();
     let start = session.find(transfer(&session, "direct CCC", 7), "S", DONE);
     session.insert(start, "S", 0, TRANSFER_OPEN);
@@ -209,7 +209,7 @@ fn a_start_refused_with_6_although_all_finished() {
 }
 
 #[test]
-fn an_interrupt_refused_with_6_although_all_finished() {
+fn an_interrupt_with_a_transfer_open_although_all_finished() {
     let mut session = long_session();
     let row = session.find(session.mark("careful part"), "I", DONE);
     session.set(row, 0, TRANSFER_OPEN);
@@ -217,7 +217,7 @@ fn an_interrupt_refused_with_6_although_all_finished() {
 }
 
 #[test]
-fn a_finish_refused_with_7_although_a_command_is_open() {
+fn a_finish_without_transfer_although_a_command_is_open() {
     let mut session = long_session();
     let finish = session.find(transfer(&session, "ENTDAA", 7), "F", DONE);
     session.insert(finish, "F 0", 0, NO_TRANSFER);
@@ -341,7 +341,7 @@ fn a_sync_kept_over_a_reset() {
     assert_broken(&session, &[(Clause::ReceiptSync, finish)]);
 }
 
-/// A wrong reading: a finish answered 13 has used up a sync (01, 'Readings that look
+/// A wrong reading: a finish that found no room has used up a sync (01, 'Readings that look
 /// right').
 #[test]
 fn a_sync_raised_by_a_refused_finish() {
@@ -432,7 +432,7 @@ fn a_missing_receipt() {
 }
 
 #[test]
-fn a_missing_receipt_answered_3() {
+fn a_missing_receipt_and_cmdr_empty() {
     let mut session = long_session();
     let row = session.find(transfer(&session, "ENTDAA", 9), RECEIPT, DONE);
     session.set(row, 0, EMPTY);
@@ -524,7 +524,7 @@ fn a_fifth_receipt_queued() {
 // The room.
 
 #[test]
-fn a_write_refused_with_1_although_the_room_was_read() {
+fn a_word_dropped_although_the_room_was_read() {
     let mut session = long_session();
     let end = session.mark("end of the careless part");
     session.insert(end, ROOM, 4, DONE);
@@ -534,7 +534,7 @@ fn a_write_refused_with_1_although_the_room_was_read() {
 }
 
 #[test]
-fn a_write_refused_with_5_although_the_room_was_read() {
+fn a_word_held_in_reset_although_the_room_was_read() {
     let mut session = long_session();
     let end = session.mark("end of the careless part");
     session.insert(end, ROOM, 4, DONE);
@@ -543,7 +543,7 @@ fn a_write_refused_with_5_although_the_room_was_read() {
 }
 
 #[test]
-fn a_write_refused_with_1_although_the_room_was_1() {
+fn a_word_dropped_although_the_room_was_1() {
     let mut session = long_session();
     let fifth = session.find(session.mark("last part"), "W 00d4", DROPPED_FULL);
     session.set(fifth - 1, 0, DROPPED_FULL);
@@ -630,7 +630,7 @@ fn calls_in_reset_are_not_counted() {
 
 /// A write to ENABLE that was refused is no reset, a second 0 no release.
 #[test]
-fn only_writes_answered_0_reset_and_release() {
+fn only_writes_that_are_done_reset_and_release() {
     let mut session = long_session();
     let mark = session.find(transfer(&session, "private write", 9), "F", DONE);
     session.insert(mark, RESET, 0, DROPPED_READ_ONLY);

@@ -9,7 +9,7 @@ use crate::number::{DONE, NO_TRANSFER, TRANSFER_OPEN};
 pub struct Transfer {
     /// Unknown after a start that was not the next command's.
     pub command: Option<Command>,
-    /// Sends and receives answered 0 so far.
+    /// Sends and receives answered `DONE` so far.
     pub moved: u64,
 }
 
@@ -29,7 +29,7 @@ pub struct Transfers {
 }
 
 impl Transfers {
-    /// A start answered 0; the command before it must have finished.
+    /// A start answered `DONE`; the command before it must have finished.
     pub fn start(&mut self, command: Option<Command>, findings: &mut Findings) {
         let number = self.started;
         findings.judge(Clause::OneOpen, self.open.is_none(), || {
@@ -39,7 +39,7 @@ impl Transfers {
         self.open = Some(Transfer { command, moved: 0 });
     }
 
-    /// A trigger answered 0; its burst has this many commands.
+    /// A trigger answered `DONE`; its burst has this many commands.
     pub fn trigger(&mut self, commands: u32) {
         self.burst_left = commands;
     }
@@ -49,7 +49,7 @@ impl Transfers {
         self.open.is_none() && self.burst_left > 0
     }
 
-    /// An event answered 0 that only a command of this kind has; `bytes` is what it
+    /// An event answered `DONE` that only a command of this kind has; `bytes` is what it
     /// moves.
     pub fn event(&mut self, kind: Kind, bytes: u64, findings: &mut Findings) {
         if self.is_in_burst() {
@@ -75,7 +75,7 @@ impl Transfers {
         }
     }
 
-    /// A finish answered 0 for a transfer of the burst; false if it is not one.
+    /// A finish answered `DONE` for a transfer of the burst; false if it is not one.
     pub fn finish_in_burst(&mut self) -> bool {
         let in_burst = self.is_in_burst();
         if in_burst {
@@ -84,7 +84,7 @@ impl Transfers {
         in_burst
     }
 
-    /// A finish answered 0; gives the transfer that it ends.
+    /// A finish answered `DONE`; gives the transfer that it ends.
     pub fn finish(&mut self) -> Option<Transfer> {
         self.open.take()
     }

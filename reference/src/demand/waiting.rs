@@ -23,7 +23,7 @@ impl Commands {
         }
     }
 
-    /// A write to CMD that was answered 0. More words than its capacity can't wait in it.
+    /// A write to CMD that was answered `DONE`. More words than its capacity can't wait in it.
     pub fn word_taken(&mut self, word: u32, findings: &mut Findings) {
         let Some(waiting) = &mut self.waiting else {
             return;
@@ -50,7 +50,7 @@ impl Commands {
         });
     }
 
-    /// A start answered 0. Gives the command that was its turn, if the value is that one's
+    /// A start answered `DONE`. Gives the command that was its turn, if the value is that one's
     /// first word.
     pub fn start(&mut self, value: u32, findings: &mut Findings) -> Option<Command> {
         self.started += 1;
@@ -72,7 +72,7 @@ impl Commands {
         command
     }
 
-    /// A start refused by 9 says that nothing whole waits.
+    /// A start answered `NO_COMMAND` says that nothing whole waits.
     pub fn refused_without_command(&self, findings: &mut Findings) {
         let Some(waiting) = &self.waiting else {
             return;
@@ -84,7 +84,7 @@ impl Commands {
         });
     }
 
-    /// A start refused by 15 says that the first command that waits is ENTDAA.
+    /// A start answered `SDO_NOT_EMPTY` says that the first command that waits is ENTDAA.
     pub fn refused_for_sdo(&self, findings: &mut Findings) {
         let Some(waiting) = &self.waiting else {
             return;

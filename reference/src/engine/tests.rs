@@ -204,7 +204,8 @@ fn device_table() {
     assert_eq!(bank.read(0x180), done(0x1004));
 }
 
-/// Which calls a reset refuses; 18 goes before that (01, 'Numbers that come back').
+/// Which calls a reset refuses; `OUT_OF_RANGE` goes before that (01, 'Numbers that come
+/// back').
 #[test]
 fn held_in_reset() {
     let mut bank = fresh();
@@ -473,7 +474,8 @@ fn receive_without_room() {
     assert_eq!(bank.finish(0, &mut []), done(0x1400));
 }
 
-/// Bytes against the direction, and in ENTDAA; 10 is tested before 11 (01, 'Bus events').
+/// Bytes against the direction, and in ENTDAA; `NOT_THIS_KIND` goes before
+/// `LENGTH_REACHED` (01, 'Bus events').
 #[test]
 fn wrong_direction() {
     let mut bank = with_device();
@@ -698,7 +700,7 @@ fn pending_address() {
     assert_eq!(bank.finish(0, &mut []), done(0));
 }
 
-/// Other transfers refuse them by 10; 0x87 is no ENTDAA (01, 'Bus events').
+/// Other transfers refuse them; 0x87 is no ENTDAA (01, 'Bus events').
 #[test]
 fn address_events_need_entdaa() {
     for words in [&[0x10][..], &[0x1e], &[CCC, 6], &[CCC | 0x10, 0x87]] {

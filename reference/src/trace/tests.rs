@@ -109,7 +109,7 @@ fn the_form_byte_by_byte() {
     assert_eq!(check(bytes), DONE);
 }
 
-/// Within the mark a cut is 24, behind it 25; so is each byte too many.
+/// Within the mark a cut is `WRONG_MARK`, behind it `WRONG_TABLE`; so is each byte too many.
 #[test]
 fn cut_at_each_byte_or_too_long() {
     let mut bytes = small_trace();
@@ -277,7 +277,7 @@ fn a_section_is_the_callers_own_bytes() {
     }
 }
 
-/// They have no bytes; 24 and 25 go before 26.
+/// They have no bytes; `WRONG_MARK` and `WRONG_TABLE` go before `NO_SUCH_SECTION`.
 #[test]
 fn sections_that_there_are_not() {
     let mut bytes = small_trace();
@@ -376,7 +376,8 @@ fn each_other_byte_of_a_record() {
     }
 }
 
-/// 255 itself makes a right record, though the bank answers 18 to such a code or address.
+/// 255 itself makes a right record, though the bank answers
+/// `OUT_OF_RANGE` to such a code or address.
 #[test]
 fn bytes_above_255() {
     for letter in [b'X', b'F', b'I'] {
@@ -503,7 +504,7 @@ fn a_wrong_record_among_right_ones() {
 
 /// The record counts, and the next one is done.
 #[test]
-fn refusals_and_19_do_not_stop() {
+fn refusals_and_wrong_parity_do_not_stop() {
     let session = "S, R 1, W 0 0, W 40 0, T, F 10, W d4 400000, S, W d4 7, S, D 1 2, \
                    W dc 11000000, A, A, W dc 13000000, A, F 0, R d8";
     let numbers = [
@@ -536,7 +537,7 @@ fn refusals_and_19_do_not_stop() {
     assert_eq!(to_wrong_parity.last.value, 8);
 }
 
-/// A set-up answered 23 leaves a bank on which each record is 21.
+/// A refused set-up leaves a bank on which each record is `NOT_WELL_FORMED`.
 #[test]
 fn on_a_bank_that_is_not_well_formed() {
     let numbers = SetupNumbers {

@@ -232,7 +232,7 @@ impl Script {
         self.end(if moved == length { 0 } else { 1 }, moved);
     }
 
-    /// A start refused with 15; only a reset goes on.
+    /// A start answered `SDO_NOT_EMPTY`; only a reset goes on.
     fn entdaa_refused(&mut self) {
         self.mark("ENTDAA refused");
         self.command(CCC | 0x311);
@@ -278,8 +278,8 @@ impl Script {
         self.end(8, 0);
     }
 
-    /// Four commands wait, more words are dropped, receipts fill CMDR, a finish is
-    /// refused with 13.
+    /// Four commands wait, more words are dropped, receipts fill CMDR, a finish has no
+    /// room.
     fn full_queues(&mut self) {
         self.mark("full queues");
         for _ in 0..6 {
@@ -303,7 +303,7 @@ impl Script {
 }
 
 /// Many transfers of each kind, more than 256 receipts in one part, resets in open
-/// transfers, words dropped with 1, an address word answered 19.
+/// transfers, words dropped, an address word with wrong parity.
 pub fn long_session() -> Session {
     let mut script = Script {
         lines: Vec::new(),

@@ -282,7 +282,7 @@ fn commands_not_carried() {
 }
 
 /// With too short an output no event works, the trigger included; reads that have finished
-/// still count. 18 goes before that.
+/// still count. `OUT_OF_RANGE` goes before that.
 #[test]
 fn each_event_wants_the_output() {
     let mut output = [UNTOUCHED; 2];
@@ -360,7 +360,7 @@ fn locked_registers() {
             value: u32::MAX,
         };
         assert_refused(&mut bank, &write, &mut [], TRANSFER_OPEN);
-        // 4 goes first; reads are free.
+        // `NO_REGISTER` goes first; reads are free.
         assert_eq!(bank.write(offset + 1, 0), refuse(NO_REGISTER));
         assert_eq!(bank.read(offset).number, DONE);
     }
@@ -402,7 +402,7 @@ fn error_codes_in_the_middle() {
         assert_eq!(output[words..], [UNTOUCHED; 4][words..]);
     }
     assert_eq!(bank.receive(0xc0, &output), done(0));
-    // Bytes moved, so no 6.
+    // Bytes moved, so that code 6 is none.
     assert_eq!(bank.finish(6, &mut output), refuse(ENDING_NOT_ALLOWED));
     assert_eq!(bank.finish(0, &mut output), done(0));
     assert_eq!(output, [0, 0, 0, 0xc000_0000]);

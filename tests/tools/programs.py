@@ -202,7 +202,7 @@ def no_wait(*_):
         child.kill()
         raise Wrong('replay waits for more of a wrong trace') from None
     equal('no wait', 'replay', (status, child.stdout.read().decode()),
-          (1, '%s\n' % Answer(0, Number.WRONG_MARK)))
+          (1, str(Answer(0, Number.WRONG_MARK)) + '\n'))
 
 
 def shell(name, descriptors, data=RIGHT):

@@ -20,7 +20,7 @@ from thymewax.calls import DIGITS
 
 LETTERS = [*DIGITS, 'G']
 WORD = 0xffffffff
-# 01's worked session.
+# The worked session of paper 01.
 WORKED = b'''W 0040 00000000    00000000 00
 W 0180 00001102    00000000 00
 W 00dc a5c30000    00000000 00
@@ -54,7 +54,7 @@ def worked_session():
 
 
 def every_call():
-    """Each call by its method, with the value that 01 or 004 gives."""
+    """Each call by its method, with its value."""
     model = Model.set_up()
     for name, got, wanted in (
             ('write', model.write(Register.ENABLE, 0), 0),
@@ -81,14 +81,15 @@ def every_call():
             ('address', model.write(Register.SDO_FIFO, 0x10000000), 0),
             ('take', model.take_address(), 8),
             ('finish', model.finish(0), 0x002)):
-        equal('every call', name, got, Answer(wanted, 0))
+        equal('every call', name, got, Answer(wanted, Number.DONE))
 
 
 def truth():
-    """An answer is true exactly at 0, and `done` raises at every other number, with its name."""
+    """An answer is true exactly where the call was done, and `done` raises at every other number,
+    with its name."""
     for number in Number:
         answer = Answer(7, int(number))
-        equal('truth', number, bool(answer), number == 0)
+        equal('truth', number, bool(answer), number == Number.DONE)
         if answer:
             equal('truth', number, answer.done() is answer, True)
         else:
@@ -105,8 +106,10 @@ def truth():
     for answer in (model.start(), model.request(1, 2), model.write(Register.SDO_FIFO, 0x11000000)):
         answer.done()
     taken = model.take_address()
-    equal('truth', 'wrong parity', (taken, bool(taken), taken.refused), ((8, 19), False, False))
-    equal('truth', 'wrong parity', raises('truth', taken, Refused, taken.done).number, 19)
+    equal('truth', 'wrong parity', (taken, bool(taken), taken.refused),
+          (Answer(8, Number.WRONG_PARITY), False, False))
+    equal('truth', 'wrong parity', raises('truth', taken, Refused, taken.done).number,
+          Number.WRONG_PARITY)
 
 
 def bursts():
@@ -119,14 +122,14 @@ def bursts():
         model.write(OFFLOAD_CMD[place], command.word)
     model.write(OFFLOAD_SDO[0], 0xa5000000)
     model.write(Register.OPS, Ops(True, 3).word)
-    equal('bursts', 'output too short', model.trigger(), Answer(0, 13))
+    equal('bursts', 'output too short', model.trigger(), Answer(0, Number.NO_ROOM))
     model.lend(2)
-    equal('bursts', 'trigger', model.trigger(), Answer(0, 0))
+    equal('bursts', 'trigger', model.trigger(), Answer(0, Number.DONE))
     equal('bursts', 'place', model.image().burst_place, 0)
     model.receive(0x12)
-    equal('bursts', 'finish', model.finish(0), Answer(0, 0))
+    equal('bursts', 'finish', model.finish(0), Answer(0, Number.DONE))
     equal('bursts', 'place', model.image().burst_place, 1)
-    equal('bursts', 'sent', model.send(), Answer(0xa5, 0))
+    equal('bursts', 'sent', model.send(), Answer(0xa5, Number.DONE))
     model.finish(0)
     for byte in (1, 2, 3, 4):
         model.receive(byte)
@@ -134,10 +137,10 @@ def bursts():
     equal('bursts', 'place', model.image().burst_place, None)
     equal('bursts', 'output', model.output(), (0x12000000, 0x01020304))
     model.write(Register.OPS, Ops(True, 0).word)
-    equal('bursts', 'no commands', model.trigger().number, 28)
+    equal('bursts', 'no commands', model.trigger().number, Number.BURST_HAS_NO_COMMANDS)
     model.write(OFFLOAD_CMD[0], Command(8, 5).word)
     model.write(Register.OPS, Ops(True, 1).word)
-    equal('bursts', 'not carried', model.trigger().number, 29)
+    equal('bursts', 'not carried', model.trigger().number, Number.NOT_CARRIED)
 
 
 def set_ups():
@@ -150,12 +153,13 @@ def set_ups():
     equal('set-up', 'capacities', tuple(ring.capacity for ring in model.image().rings), given[:5])
     equal('set-up', 'watermarks', tuple(ring.watermark for ring in model.image().rings),
           given[5:10])
-    equal('set-up', 'ID', model.read(Register.DEVICE_ID), Answer(255, 0))
+    equal('set-up', 'ID', model.read(Register.DEVICE_ID), Answer(255, Number.DONE))
     equal('set-up', 'store', len(model.store()), sum(given[:5]))
     for name, number in OUT_OF_RANGE:
         refusal = raises('set-up', '%s %d' % (name, number), Refused, Model.set_up,
                          **{name: number})
-        equal('set-up', '%s %d' % (name, number), refusal.number, 23)
+        equal('set-up', '%s %d' % (name, number), refusal.number,
+              Number.SET_UP_OUT_OF_RANGE)
     for name in (*SetUp._fields, 'output_words'):
         for number in (-1, 1 << 32):
             raises('set-up', '%s %d' % (name, number), ValueError, Model.set_up, **{name: number})
@@ -192,7 +196,7 @@ def ranges():
 
 
 def no_calls():
-    """Numbers that name no call are 27 and change nothing."""
+    """Numbers that name no call are a wrong record and change nothing."""
     model = Model.set_up()
     model.write(Register.ENABLE, 0)
     before = memory(model)
@@ -204,12 +208,12 @@ def no_calls():
         wrong += [(letter, *[0] * place, 1) for place in range(3)
                   if place >= used or (place == 0 and letter not in 'WR')]
     for numbers in wrong:
-        equal('no calls', numbers, model.step(*numbers), Answer(0, 27))
+        equal('no calls', numbers, model.step(*numbers), Answer(0, Number.WRONG_RECORD))
     equal('no calls', 'nothing changed', memory(model), before)
 
 
 def source_of(image, levels):
-    """IRQ_SOURCE by 01's rule."""
+    """IRQ_SOURCE by the levels and pending bits (`source.levels`)."""
     cmd, cmdr, sdo, sdi, ibi = (ring.watermark for ring in image.rings)
     bits = (levels.cmd < cmd, levels.cmdr > cmdr, levels.sdo < sdo, levels.sdi > sdi,
             levels.ibi > ibi)
@@ -268,7 +272,7 @@ def tables():
         equal('tables', 'device %d in the image' % address, image.device(address),
               Device(address, *flags_of(address), store=False))
     for offset, word in words.items():
-        equal('tables', 'offset %x' % offset, model.read(offset), Answer(word, 0))
+        equal('tables', 'offset %x' % offset, model.read(offset), Answer(word, Number.DONE))
     equal('tables', 'offload words', image.offload_commands + image.offload_data,
           tuple(words.values()))
 
@@ -338,8 +342,8 @@ def threads():
         worker.start()
     for worker in workers:
         worker.join()
-    equal('threads', 'taken', answers.count(0), 1024)
-    equal('threads', 'dropped', answers.count(1), THREADS * WRITES - 1024)
+    equal('threads', 'taken', answers.count(Number.DONE), 1024)
+    equal('threads', 'dropped', answers.count(Number.DROPPED_FULL), THREADS * WRITES - 1024)
     for sync in range(1024):
         model.start()
         equal('threads', 'receipt', Receipt.of(model.finish(8).value), (8, 0, sync % 256))

@@ -14,7 +14,7 @@ sys.path.insert(0, str(pathlib.Path(__file__).resolve().parents[2]))
 from tests.scripts.lines import lent
 from tests.scripts.source import Source
 from tests.shared.trial import equal, generated, main
-from thymewax import Answer, Call, Model, Register, SetUp, section, session, trace
+from thymewax import Answer, Call, Model, Number, Register, SetUp, section, session, trace
 from thymewax.calls import DIGITS
 from thymewax.image import WORDS
 from thymewax.library import Word, load
@@ -22,6 +22,10 @@ from thymewax.library import Word, load
 CALLS = [Call(letter) for letter in DIGITS] + [Call('G'), Call('Q'), Call('X', 0, 256)]
 TRACE = trace.join(trace.records([Call('R', 0), Call('R', 4)]))
 MOST = 0xffffffff
+# What a replay tells where it did no record.
+NO_ANSWER = Answer(0, Number.DONE)
+# The numbers that no call of a script has.
+BEFORE_ALL = (Number.NOT_WELL_FORMED, Number.STORE_LENGTH, Number.WRONG_RECORD)
 # Fields of an image: the word, and the least number that no bank has there.
 TOO_LARGE = {
     **{place: 1025 for place in range(0, 20, 4)}, 20: 256, 22: 256, 23: 128, 24: 4, 25: 128, 26: 2,
@@ -48,14 +52,17 @@ def released():
 
 
 def refuses(name, image, store):
-    """Every call, and every record of a replay, is 21, and no word changes."""
+    """Every call, and every record of a replay, is told that the bank is not well formed, and no word
+    changes."""
     model = Model(image, store, [5, 6])
     before = state(model)
     for call in CALLS:
-        equal('damaged images', '%s, %s' % (name, call), model.make(call), Answer(0, 21))
-    equal('damaged images', name, model.replay(TRACE), (0, 2, (0, 21)))
-    equal('damaged images', name, model.replay(TRACE, limit=0), (0, 0, (0, 0)))
-    equal('damaged images', name, model.replay(TRACE[:-1]), (25, 0, (0, 0)))
+        equal('damaged images', '%s, %s' % (name, call), model.make(call),
+              Answer(0, Number.NOT_WELL_FORMED))
+    equal('damaged images', name, model.replay(TRACE),
+          (Number.DONE, 2, (0, Number.NOT_WELL_FORMED)))
+    equal('damaged images', name, model.replay(TRACE, limit=0), (Number.DONE, 0, NO_ANSWER))
+    equal('damaged images', name, model.replay(TRACE[:-1]), (Number.WRONG_TABLE, 0, NO_ANSWER))
     equal('damaged images', name, state(model), before)
 
 
@@ -89,8 +96,9 @@ def damaged():
 
 
 def damaged_at_random():
-    """Any words: a call is answered 21, or as any other is; a refused one changes nothing."""
-    source, counts = Source(1), {21: 0, 0: 0}
+    """Any words: a call is told that they are no bank, or answered as any other; a refused one changes
+    nothing."""
+    source, not_formed = Source(1), 0
     model = released()
     image, store = model.image(), model.store()
     for _ in range(RANDOM_DAMAGES):
@@ -102,29 +110,31 @@ def damaged_at_random():
         other = Model(words, store, [7] * 4)
         before, call = state(other), source.pick(CALLS)
         answer = other.make(call)
-        counts[answer.number] = counts.get(answer.number, 0) + 1
-        equal('random damage', (call, words), answer.number in range(30), True)
+        not_formed += answer.number == Number.NOT_WELL_FORMED
+        equal('random damage', (call, words), answer.number in list(Number), True)
         if answer.refused:
             equal('random damage', (call, words), (answer.value, state(other)), (0, before))
         free = all(words[place] == image[place] for place in range(WORDS) if place not in FREE)
         if free:
-            equal('random damage', 'free words', answer.number != 21, True)
-    equal('random damage', 'some refused with 21, some not',
-          min(counts[21], RANDOM_DAMAGES - counts[21]) > RANDOM_DAMAGES // 20, True)
+            equal('random damage', 'free words', answer.number != Number.NOT_WELL_FORMED, True)
+    equal('random damage', 'some not well formed, some so',
+          min(not_formed, RANDOM_DAMAGES - not_formed) > RANDOM_DAMAGES // 20, True)
 
 
 def other_stores():
-    """22 for a store of another length; in a replay it is the answer of each record."""
+    """A store of another length is told of; in a replay by the answer of each record."""
     model = released()
     image, store = model.image(), model.store()
     for length in (0, 1, len(store) - 1, len(store) + 1, 2 * len(store)):
         other = Model(image, (store * 2)[:length])
         before = state(other)
         for call in CALLS:
-            wanted = 22 if call.right or call.letter == 'G' else 27
+            wanted = (Number.STORE_LENGTH if call.right or call.letter == 'G'
+                      else Number.WRONG_RECORD)
             equal('other stores', '%d words, %s' % (length, call), other.make(call),
                   Answer(0, wanted))
-        equal('other stores', length, other.replay(TRACE), (0, 2, (0, 22)))
+        equal('other stores', length, other.replay(TRACE),
+              (Number.DONE, 2, (0, Number.STORE_LENGTH)))
         equal('other stores', length, state(other), before)
 
 
@@ -138,16 +148,19 @@ def raw_set_up():
     for length in (0, 1, 199, 200, 201):
         image = words(*range(length))
         number = library.thymewax_set_up(image, length, *numbers)
-        equal('raw set-up', '%d words' % length, number, 0 if length == WORDS else 21)
+        equal('raw set-up', '%d words' % length, number,
+              Number.DONE if length == WORDS else Number.NOT_WELL_FORMED)
         if number:
             equal('raw set-up', '%d words' % length, list(image), list(range(length)))
     for place in range(len(numbers)):
         image = words(*range(WORDS))
         given = [*numbers[:place], 2000, *numbers[place + 1:]]
-        equal('raw set-up', given, library.thymewax_set_up(image, WORDS, *given), 23)
+        equal('raw set-up', given, library.thymewax_set_up(image, WORDS, *given),
+              Number.SET_UP_OUT_OF_RANGE)
         equal('raw set-up', given, list(image), list(range(WORDS)))
     # The length goes before the numbers.
-    equal('raw set-up', 'both', library.thymewax_set_up(words(*range(199)), 199, *[0] * 11), 21)
+    equal('raw set-up', 'both', library.thymewax_set_up(words(*range(199)), 199, *[0] * 11),
+          Number.NOT_WELL_FORMED)
 
 
 def raw_lengths():
@@ -159,16 +172,17 @@ def raw_lengths():
         number = library.thymewax_replay(image, WORDS, store, len(store), TRACE, len(TRACE), 0, 1,
                                          told, length)
         equal('raw lengths', 'told of %d' % length, (number, list(told)),
-              (0, ([1, 0x100, 0] + [9] * 3)[:length]))
+              (Number.DONE, ([1, 0x100, Number.DONE] + [9] * 3)[:length]))
         place = words(*[9] * length)
         number = library.thymewax_section(TRACE, len(TRACE), 0, place, length)
         equal('raw lengths', 'place of %d' % length, (number, list(place)),
-              (0, ([14, 24] + [9] * 4)[:length]))
+              (Number.DONE, ([trace.header_bytes(1), 2 * trace.RECORD.size] + [9] * 4)[:length]))
     # A part of a file is a file of its own.
     for length in range(len(TRACE) + 1):
         number = library.thymewax_section(TRACE, length, 0, words(0, 0), 2)
         equal('raw lengths', '%d bytes' % length, number,
-              24 if length < 4 else 25 if length < len(TRACE) else 0)
+              Number.WRONG_MARK if length < len(trace.MARK)
+              else Number.WRONG_TABLE if length < len(TRACE) else Number.DONE)
     empty = words()
     image, store = words(*model.image()), words(*model.store())
     equal('raw lengths', 'no output', library.thymewax_step(
@@ -180,8 +194,9 @@ def raw_refusals():
     library = load()
     good = released()
     for image in (good.image(), with_word(good.image(), 0, 1025), list(good.image())[:199]):
-        for file, asked, number in ((b'', 0, 24), (TRACE[:3], 0, 24), (TRACE[:-1], 0, 25),
-                                    (TRACE, 1, 26)):
+        for file, asked, number in (
+                (b'', 0, Number.WRONG_MARK), (TRACE[:3], 0, Number.WRONG_MARK),
+                (TRACE[:-1], 0, Number.WRONG_TABLE), (TRACE, 1, Number.NO_SUCH_SECTION)):
             kept, store, told, place = (words(*image), words(*good.store()), words(9, 9, 9),
                                         words(9, 9))
             equal('raw refusals', number, library.thymewax_replay(
@@ -191,7 +206,7 @@ def raw_refusals():
             equal('raw refusals', number, (list(kept), tuple(store), list(told), list(place)),
                   (list(image), good.store(), [9, 9, 9], [9, 9]))
             equal('raw refusals', number, Model(image, good.store()).replay(file, asked),
-                  (number, 0, (0, 0)))
+                  (number, 0, NO_ANSWER))
             equal('raw refusals', number, section(file, asked), (number, 0, 0))
 
 
@@ -208,7 +223,7 @@ def refused_in_scripts():
             continue
         before = state(model)
         answer = model.make(call)
-        equal('scripts', call, answer.number in (21, 22, 27), False)
+        equal('scripts', call, answer.number in BEFORE_ALL, False)
         if answer.refused:
             equal('scripts', call, (answer.value, state(model)), (0, before))
 

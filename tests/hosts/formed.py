@@ -22,7 +22,7 @@ from tests.scripts.bank import BURST_LENGTH, CARRIED_LENGTH, LEAST_CAPACITIES
 from tests.scripts.lines import SET_UP, lent, line_pattern, split
 from tests.scripts.source import Source
 from tests.shared.trial import TRIED, Wrong, equal, generated, main, run
-from thymewax import OFFLOAD_CMD, Call, Model, Refused, Register, SetUp, session
+from thymewax import OFFLOAD_CMD, Call, Model, Number, Refused, Register, SetUp, session
 from thymewax.image import WORDS, Kind, Phase
 from thymewax.library import Word, load
 
@@ -70,7 +70,7 @@ SET_UPS = (SetUp(*LEAST_CAPACITIES, *[0] * 5), SetUp(*LEAST_CAPACITIES, *LEAST_C
            SetUp(*[1024] * 5, *[1024] * 5, 255), SetUp(2, 3, 5, 7, 9, 1, 0, 5, 2, 4, 128))
 
 # The archive's answers to a read of VERSION: the value in the low half, the number in the high.
-WELL_FORMED, NOT_WELL_FORMED = 0x100, 21 << 32
+WELL_FORMED, NOT_WELL_FORMED = 0x100, Number.NOT_WELL_FORMED << 32
 
 
 # Sound images.

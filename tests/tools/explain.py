@@ -19,7 +19,7 @@ from tests import ROOT
 from tests.scripts.source import Source
 from tests.shared.packing import pack
 from tests.shared.trial import equal, generated, main, run, tool
-from thymewax import MEANINGS, Model, session
+from thymewax import MEANINGS, Model, Number, session
 
 sys.path.insert(0, str(ROOT / 'tools'))
 import inputs
@@ -29,6 +29,15 @@ SEEDS = (1, 2, 3)
 CALLS = 5000
 PLACES = 6
 
+
+def telling(how):
+    """What is told of a call with a number that is not 0, and why where that is told."""
+    def tell(number, why=''):
+        return '%s: %d, %s%s' % (how, number, MEANINGS[number], ' (%s)' % why if why else '')
+    return tell
+
+
+refused, dropped, taken = map(telling, ('refused', 'dropped', 'taken'))
 # Lines and what is told of each: the words behind the answer, then the reason, if there is one.
 TOLD = [
     ('W 40 0', 'write ENABLE: release'),
@@ -44,25 +53,23 @@ TOLD = [
     ('W 0d4 00300310', 'write CMD_FIFO: private write to 08, 3 bytes, broadcast header, '
      'repeated start'),
     ('S', 'start: private write to 08, 3 bytes, broadcast header, repeated start (call 11)'),
-    ('S', 'start', 'refused: 6, a transfer is open (private write, 0 of 3 bytes moved)'),
+    ('S', 'start', refused(Number.TRANSFER_OPEN, 'private write, 0 of 3 bytes moved')),
     ('T', 'send: a1, byte 1 of 3'),
-    ('X 1', 'receive 01', 'refused: 10, not for this kind of transfer or moment (private write, '
-     '1 of 3 bytes moved)'),
-    ('F 0', 'finish with no error', 'refused: 14, ending not allowed here (private write, 1 of 3 '
-     'bytes moved)'),
+    ('X 1', 'receive 01', refused(Number.NOT_THIS_KIND, 'private write, 1 of 3 bytes moved')),
+    ('F 0', 'finish with no error',
+     refused(Number.ENDING_NOT_ALLOWED, 'private write, 1 of 3 bytes moved')),
     ('T', 'send: b2, byte 2 of 3'),
     ('T', 'send: c3, byte 3 of 3'),
-    ('T', 'send', 'refused: 11, commanded length reached (private write, 3 of 3 bytes moved)'),
+    ('T', 'send', refused(Number.LENGTH_REACHED, 'private write, 3 of 3 bytes moved')),
     ('F 0', 'finish with no error: receipt no error, 3 bytes moved, sync 0; private write to 08, '
      '3 bytes, broadcast header, repeated start (call 11)'),
     ('R 0d8', 'read CMDR_FIFO: no error, 3 bytes moved, sync 0; private write to 08, 3 bytes, '
      'broadcast header, repeated start (call 11)'),
-    ('R 0d8', 'read CMDR_FIFO', 'refused: 3, a read of an empty CMDR, SDI or IBI'),
-    ('S', 'start', 'refused: 9, no whole command waits (CMD has 0 of 4 words)'),
+    ('R 0d8', 'read CMDR_FIFO', refused(Number.EMPTY)),
+    ('S', 'start', refused(Number.NO_COMMAND, 'CMD has 0 of 4 words')),
     ('W 0d4 00000113', 'write CMD_FIFO: private read from 09, 1 byte'),
     ('S', 'start: private read from 09, 1 byte (call 24)'),
-    ('X 5', 'receive 05', "refused: 20, the transfer's device is not attached (it was not when the "
-     'transfer opened)'),
+    ('X 5', 'receive 05', refused(Number.NOT_ATTACHED, 'it was not when the transfer opened')),
     ('F 8', 'finish with unknown address: receipt unknown address, 0 bytes moved, sync 1; private '
      'read from 09, 1 byte (call 24)'),
     ('W 0d4 00400210', 'write CMD_FIFO: first word of a CCC'),
@@ -71,21 +78,20 @@ TOLD = [
     ('F 6', 'finish with NACK: receipt NACK, 0 bytes moved, sync 2; direct CCC 8b write to 08, '
      '2 bytes (call 28)'),
     ('W 084 ff', 'write IRQ_PENDING: clear CMDR_PENDING, IBI_PENDING, DAA_PENDING'),
-    ('W 0c0 1', 'write CMD_FIFO_ROOM: 00000001', 'dropped: 2, a write to a read-only register was '
-     'dropped'),
-    ('W 1234 1', 'write offset 1234: 00000001', 'dropped: 4, no register there (not in the map)'),
-    ('R 0c1', 'read offset 00c1', 'refused: 4, no register there (not a multiple of 4)'),
+    ('W 0c0 1', 'write CMD_FIFO_ROOM: 00000001', dropped(Number.DROPPED_READ_ONLY)),
+    ('W 1234 1', 'write offset 1234: 00000001', dropped(Number.NO_REGISTER, 'not in the map')),
+    ('R 0c1', 'read offset 00c1', refused(Number.NO_REGISTER, 'not a multiple of 4')),
     ('W 140 1', 'write IBI_CONFIG: IBI_CONFIG_ENABLE'),
-    ('I 8 5a', 'interrupt request of 08 with 5a', 'refused: 16, interrupt request not heard'),
+    ('I 8 5a', 'interrupt request of 08 with 5a', refused(Number.NOT_HEARD)),
     ('W 0d4 00400000', 'write CMD_FIFO: first word of a CCC'),
     ('W 0d4 00000007', 'write CMD_FIFO: second word of a CCC, ENTDAA'),
     ('S', 'start: ENTDAA (call 38)'),
     ('D 1 2', 'address request with 00000001 00000002'),
     ('W 0dc 11000000', 'write SDO_FIFO: address 08, parity wrong'),
-    ('A', 'address take: address 08', 'taken: 19, the address word had a wrong parity bit'),
-    ('F 10', 'finish with code 16', 'refused: 18, argument out of range'),
+    ('A', 'address take: address 08', taken(Number.WRONG_PARITY)),
+    ('F 10', 'finish with code 16', refused(Number.OUT_OF_RANGE)),
     ('W 040 1', 'write ENABLE: reset and hold'),
-    ('W 0dc 1', 'write SDO_FIFO: bytes 00 00 00 01', 'dropped: 5, held in reset'),
+    ('W 0dc 1', 'write SDO_FIFO: bytes 00 00 00 01', dropped(Number.HELD_IN_RESET)),
     ('R 100', 'read OPS: direct mode, offload length 0, speed 0, no transfer open'),
     ('W 2c4 411', 'write OFFLOAD_CMD[1]: private read from 08, 4 bytes'),
     ('R 300', 'read OFFLOAD_SDO[0]: bytes 00 00 00 00'),
@@ -98,12 +104,12 @@ BURST_TOLD = [
     ('W 2c4 110', 'write OFFLOAD_CMD[1]: private write to 08, 1 byte'),
     ('W 2c8 111', 'write OFFLOAD_CMD[2]: private read from 08, 1 byte'),
     ('W 300 a5000000', 'write OFFLOAD_SDO[0]: bytes a5 00 00 00'),
-    ('G', 'trigger', 'refused: 8, not in this mode (OPS says direct mode)'),
+    ('G', 'trigger', refused(Number.NOT_IN_THIS_MODE, 'OPS says direct mode')),
     ('W 100 7', 'write OPS: offload mode, offload length 3, speed 0'),
     ('G', 'trigger: a burst of 3 commands'),
     ('X 12', 'receive 12: byte 1 of 2'),
-    ('W 100 0', 'write OPS: direct mode, offload length 0, speed 0', 'dropped: 6, a transfer is '
-     'open (private read, 1 of 2 bytes moved, command 0 of a burst)'),
+    ('W 100 0', 'write OPS: direct mode, offload length 0, speed 0',
+     dropped(Number.TRANSFER_OPEN, 'private read, 1 of 2 bytes moved, command 0 of a burst')),
     ('F 0', 'finish with no error: word 0 of the output is 12000000, command 1 of the burst is '
      'next'),
     ('T', 'send: a5, byte 1 of 1'),
@@ -117,30 +123,27 @@ CAUSES_TOLD = [
     ('W 180 110c', 'write DEV_CHAR: device 08, not attached, may interrupt, sends a byte'),
     ('R 180', 'read DEV_CHAR: device 08, not attached, may interrupt, sends a byte'),
     ('W 140 2', 'write IBI_CONFIG: IBI_CONFIG_LISTEN'),
-    ('I 8 5a', 'interrupt request of 08 with 5a', 'refused: 17, interrupt request not acknowledged '
-     '(IBI_CONFIG_ENABLE is 0)'),
+    ('I 8 5a', 'interrupt request of 08 with 5a',
+     refused(Number.NOT_ACKNOWLEDGED, 'IBI_CONFIG_ENABLE is 0')),
     ('W 140 3', 'write IBI_CONFIG: IBI_CONFIG_ENABLE, IBI_CONFIG_LISTEN'),
-    ('I 8 5a', 'interrupt request of 08 with 5a', 'refused: 17, interrupt request not acknowledged '
-     '(device 08 is not attached)'),
+    ('I 8 5a', 'interrupt request of 08 with 5a',
+     refused(Number.NOT_ACKNOWLEDGED, 'device 08 is not attached')),
     ('W 180 110a', 'write DEV_CHAR: device 08, attached, sends a byte'),
-    ('I 8 5a', 'interrupt request of 08 with 5a', 'refused: 17, interrupt request not acknowledged '
-     '(device 08 may not interrupt)'),
+    ('I 8 5a', 'interrupt request of 08 with 5a',
+     refused(Number.NOT_ACKNOWLEDGED, 'device 08 may not interrupt')),
     ('W 180 110e', 'write DEV_CHAR: device 08, attached, may interrupt, sends a byte'),
     ('I 8 5a', 'interrupt request of 08 with 5a: interrupt from 08, byte 5a, sync 0'),
     ('W 100 5', 'write OPS: offload mode, offload length 2, speed 0'),
-    ('S', 'start', 'refused: 8, not in this mode (OPS says offload mode)'),
+    ('S', 'start', refused(Number.NOT_IN_THIS_MODE, 'OPS says offload mode')),
     ('W 2c4 510', 'write OFFLOAD_CMD[1]: private write to 08, 5 bytes'),
-    ('G', 'trigger', 'refused: 29, a command of the burst is not carried (OFFLOAD_CMD[1] has 5 '
-     'bytes)'),
+    ('G', 'trigger', refused(Number.NOT_CARRIED, 'OFFLOAD_CMD[1] has 5 bytes')),
     ('W 2c0 400010', 'write OFFLOAD_CMD[0]: first word of a CCC'),
-    ('G', 'trigger', 'refused: 29, a command of the burst is not carried (OFFLOAD_CMD[0] is a '
-     'CCC)'),
+    ('G', 'trigger', refused(Number.NOT_CARRIED, 'OFFLOAD_CMD[0] is a CCC')),
     ('W 100 0', 'write OPS: direct mode, offload length 0, speed 0'),
     ('W 0d4 113', 'write CMD_FIFO: private read from 09, 1 byte'),
     ('S', 'start: private read from 09, 1 byte (call 19)'),
     ('W 180 1302', 'write DEV_CHAR: device 09, attached'),
-    ('X 5', 'receive 05', "refused: 20, the transfer's device is not attached (it was not when the "
-     'transfer opened)'),
+    ('X 5', 'receive 05', refused(Number.NOT_ATTACHED, 'it was not when the transfer opened')),
     ('W 0d4 400210', 'write CMD_FIFO: first word of a CCC'),
 ]
 # The end of the first log.
@@ -282,7 +285,7 @@ def suspects(_):
     equal('differences', 'suspect', log.endswith(
         'recording, first difference: call 7, R 00c0: the model has 00000000, the recording has '
         '00000001\n  refused last before it: call 6, write CMD_FIFO: private read from 00, 0 '
-        'bytes: 1, a word written to a full CMD or SDO was dropped (CMD has 4 of 4 words)\n'), True)
+        'bytes: 1, %s (CMD has 4 of 4 words)\n' % MEANINGS[Number.DROPPED_FULL]), True)
 
 
 if __name__ == '__main__':

@@ -13,6 +13,7 @@ target/staticlib or in the folder THYMEWAX_LIB_DIR. Exit status 0 only if all of
 """
 
 import os
+import pathlib
 import re
 import shutil
 import subprocess
@@ -20,7 +21,12 @@ import sys
 import tempfile
 import xml.etree.ElementTree as ElementTree
 
-ROOT = os.path.realpath(os.path.join(os.path.dirname(os.path.abspath(__file__)), '..', '..'))
+sys.path.insert(0, str(pathlib.Path(__file__).resolve().parents[2]))
+
+from tests import ROOT
+from tests.hosts.header_damages import DAMAGES
+from tests.hosts.header_program import CALLS, program
+
 LIBRARY = os.environ.get('THYMEWAX_LIB_DIR') or os.path.join(ROOT, 'target', 'staticlib')
 ARCHIVE = os.path.join(LIBRARY, 'libhost.a')
 HEADER = os.path.join(ROOT, 'include', 'thymewax.h')
@@ -42,221 +48,6 @@ TYPES = {'u32': 'uint32_t', 'u64': 'uint64_t', 'usize': 'size_t', 'u8': 'uint8_t
 COUNTS = {'u32': 'words', 'u8': 'bytes'}
 # What a parameter of the source is called in C, where that differs by more than a word break.
 NAMES = {'i': 'section'}
-
-# Calls by inline functions, the numbers of their records, and the number of the answer: each function
-# is answered 0 once, so that a wrong letter or argument leaves something else. Each number that is too
-# large would be a good one if it were cut.
-CALLS = (
-    ('thymewax_start(&m)', 'S', 0, 0, 0, 5),
-    ('thymewax_write(&m, THYMEWAX_REG_ENABLE, 0)', 'W', 0x040, 0, 0, 0),
-    ('thymewax_write(&m, THYMEWAX_REG_IBI_CONFIG, 3)', 'W', 0x140, 3, 0, 0),
-    ('thymewax_write(&m, THYMEWAX_REG_DEV_CHAR, 0x110e)', 'W', 0x180, 0x110e, 0, 0),
-    ('thymewax_interrupt(&m, 0x108, 0x5a)', 'I', 0, 0x108, 0x5a, 27),
-    ('thymewax_interrupt(&m, 8, 0x15a)', 'I', 0, 8, 0x15a, 27),
-    ('thymewax_interrupt(&m, 8, 0x5a)', 'I', 0, 8, 0x5a, 0),
-    ('thymewax_read(&m, 0x100e4)', 'R', 0x100e4, 0, 0, 27),
-    ('thymewax_read(&m, THYMEWAX_REG_IBI_FIFO)', 'R', 0x0e4, 0, 0, 0),
-    ('thymewax_write(&m, THYMEWAX_REG_SDO_FIFO, 0xa5c30000)', 'W', 0x0dc, 0xa5c30000, 0, 0),
-    ('thymewax_write(&m, THYMEWAX_REG_CMD_FIFO, 0x210)', 'W', 0x0d4, 0x210, 0, 0),
-    ('thymewax_start(&m)', 'S', 0, 0, 0, 0),
-    ('thymewax_send(&m)', 'T', 0, 0, 0, 0),
-    ('thymewax_send(&m)', 'T', 0, 0, 0, 0),
-    ('thymewax_send(&m)', 'T', 0, 0, 0, 11),
-    ('thymewax_finish(&m, 0)', 'F', 0, 0, 0, 0),
-    ('thymewax_write(&m, THYMEWAX_REG_CMD_FIFO, 0x211)', 'W', 0x0d4, 0x211, 0, 0),
-    ('thymewax_start(&m)', 'S', 0, 0, 0, 0),
-    ('thymewax_finish(&m, 6)', 'F', 0, 6, 0, 0),
-    ('thymewax_write(&m, THYMEWAX_REG_CMD_FIFO, 0x211)', 'W', 0x0d4, 0x211, 0, 0),
-    ('thymewax_start(&m)', 'S', 0, 0, 0, 0),
-    ('thymewax_receive(&m, 0x112)', 'X', 0, 0x112, 0, 27),
-    ('thymewax_receive(&m, 0x12)', 'X', 0, 0x12, 0, 0),
-    ('thymewax_receive(&m, 0xff)', 'X', 0, 0xff, 0, 0),
-    ('thymewax_finish(&m, 256)', 'F', 0, 256, 0, 27),
-    ('thymewax_finish(&m, 0)', 'F', 0, 0, 0, 0),
-    ('thymewax_read(&m, THYMEWAX_REG_SDI_FIFO)', 'R', 0x0e0, 0, 0, 0),
-    ('thymewax_write(&m, THYMEWAX_REG_CMD_FIFO, 0x400000)', 'W', 0x0d4, 0x400000, 0, 0),
-    ('thymewax_write(&m, THYMEWAX_REG_CMD_FIFO, 7)', 'W', 0x0d4, 7, 0, 0),
-    ('thymewax_start(&m)', 'S', 0, 0, 0, 0),
-    ('thymewax_request(&m, 0x0123abcd, 0xef000102)', 'D', 0, 0x0123abcd, 0xef000102, 0),
-    ('thymewax_write(&m, THYMEWAX_REG_SDO_FIFO, 0x11000000)', 'W', 0x0dc, 0x11000000, 0, 0),
-    ('thymewax_take_address(&m)', 'A', 0, 0, 0, 19),
-    ('thymewax_write(&m, THYMEWAX_REG_SDO_FIFO, 0x10000000)', 'W', 0x0dc, 0x10000000, 0, 0),
-    ('thymewax_take_address(&m)', 'A', 0, 0, 0, 0),
-    ('thymewax_finish(&m, 0)', 'F', 0, 0, 0, 0),
-    ('thymewax_write(&m, THYMEWAX_REG_OFFLOAD_CMD, 0x211)', 'W', 0x2c0, 0x211, 0, 0),
-    ('thymewax_trigger(&m)', 'G', 0, 0, 0, 8),
-    ('thymewax_write(&m, THYMEWAX_REG_OPS, 3)', 'W', 0x100, 3, 0, 0),
-    ('thymewax_trigger(&m)', 'G', 0, 0, 0, 0),
-    ('thymewax_receive(&m, 0x34)', 'X', 0, 0x34, 0, 0),
-    ('thymewax_finish(&m, 0)', 'F', 0, 0, 0, 0),
-    ('thymewax_write(&m, 0x10008, 7)', 'W', 0x10008, 7, 0, 27),
-    ('thymewax_model_step(&m, 0x57, 0x008, 0x89abcdef, 0)', 'W', 0x008, 0x89abcdef, 0, 0),
-    ('thymewax_model_step(&m, 0x57, 0x008, 1, 2)', 'W', 0x008, 1, 2, 27),
-    ('thymewax_model_step(&m, 0, 0, 0, 0)', '\0', 0, 0, 0, 27),
-)
-
-# A model by the inline functions beside one by the archive's. Five different capacities and
-# watermarks show a wrong order. The trace has three sections, of two records, of one, and of one with
-# a wrong one behind it. A refusal writes no lent word, and the inline functions give 0 then.
-PROGRAM = r'''
-#include <stdio.h>
-#include <stdlib.h>
-#include <string.h>
-#include "thymewax.h"
-
-static const uint32_t capacities[5] = {6, 5, 4, 7, 3}, watermarks[5] = {5, 4, 3, 2, 1};
-static const uint8_t trace[] = {
-    'I', '3', 'T', 'R', 3, 0, 30, 0, 0, 0, 2, 0, 0, 0, 54, 0, 0, 0, 1, 0, 0, 0, 66, 0, 0, 0, 2, 0, 0, 0,
-    'R', 0, 8, 0, 0, 0, 0, 0, 0, 0, 0, 0, 'R', 0, 6, 0, 0, 0, 0, 0, 0, 0, 0, 0,
-    'R', 0, 4, 0, 0, 0, 0, 0, 0, 0, 0, 0,
-    'R', 0, 4, 0, 0, 0, 0, 0, 0, 0, 0, 0, 'G', 0, 0, 0, 0, 0, 0, 0, 0, 0, 0, 0};
-static uint32_t image[200], store[25], output[1], m_store[25], m_output[1];
-static uint32_t old_image[200], old_store[25], old_output[1];
-static struct thymewax m;
-
-static void expect(const char *what, int holds)
-{
-    if (!holds) {
-        printf("differs: %s\n", what);
-        exit(1);
-    }
-}
-
-static int same(void)
-{
-    return memcmp(image, m.image, sizeof image) == 0 && memcmp(store, m_store, sizeof store) == 0
-        && memcmp(output, m_output, sizeof output) == 0;
-}
-
-static void keep(void)
-{
-    memcpy(old_image, image, sizeof image);
-    memcpy(old_store, store, sizeof store);
-    memcpy(old_output, output, sizeof output);
-}
-
-static int unchanged(void)
-{
-    return memcmp(image, old_image, sizeof image) == 0 && memcmp(store, old_store, sizeof store) == 0
-        && memcmp(output, old_output, sizeof output) == 0;
-}
-
-static void call(const char *what, struct thymewax_answer a, uint32_t letter, uint32_t offset,
-                 uint32_t first, uint32_t second, uint32_t number)
-{
-    keep();
-    uint64_t packed = thymewax_step(image, 200, store, 25, output, 1, letter, offset, first, second);
-    expect(what, a.value == (packed & 0xffffffffu) && a.number == packed >> 32);
-    expect(what, a.number == number && same());
-    expect(what, number == 0 || number == 19 || (a.value == 0 && unchanged()));
-}
-
-static void is_told(const char *what, int done, uint32_t given, uint32_t told)
-{
-    expect(what, done ? given == told : given == 0 && told == 9);
-}
-
-static uint32_t replay(size_t bytes, uint32_t section, size_t limit)
-{
-    uint32_t told[3] = {9, 9, 9}, place[2] = {9, 9};
-    struct thymewax_replayed r = thymewax_model_replay(&m, trace, bytes, section, limit);
-    struct thymewax_place p = thymewax_find_section(trace, bytes, section);
-    keep();
-    uint32_t number = thymewax_replay(image, 200, store, 25, trace, bytes, section, limit, told, 3);
-    int done = number == 0 || number == 27;
-    expect("a replay's number", r.number == number);
-    expect("a replay's memory", same() && (done || unchanged()));
-    is_told("a replay's count", done, r.count, told[0]);
-    is_told("a replay's answer", done, r.last.value, told[1]);
-    is_told("a replay's answer", done, r.last.number, told[2]);
-    expect("a section's number", p.number == thymewax_section(trace, bytes, section, place, 2));
-    is_told("a section's place", p.number == 0, p.first, place[0]);
-    is_told("a section's place", p.number == 0, p.bytes, place[1]);
-    return number;
-}
-
-static void replays(void)
-{
-    for (uint32_t section = 0; section < 4; section++)
-        for (size_t limit = 0; limit < 3; limit++)
-            expect("the number of a replay", replay(sizeof trace, section, limit)
-                       == (section == 3 ? 26u : section == 2 && limit == 2 ? 27u : 0u));
-    expect("24", replay(3, 0, 9) == 24);
-    expect("25", replay(sizeof trace - 1, 0, 9) == 25);
-}
-
-int main(void)
-{
-    expect("image words", thymewax_image_words() == THYMEWAX_IMAGE_WORDS);
-    expect("store words", thymewax_store_words(capacities) == 25);
-    memset(&m, 0xff, sizeof m);
-    expect("set-up", thymewax_model_set_up(&m, capacities, watermarks, 90, m_store, 25) == 0);
-    expect("set-up", thymewax_set_up(image, 200, 6, 5, 4, 7, 3, 5, 4, 3, 2, 1, 90) == 0 && same());
-    expect("23", thymewax_model_set_up(&m, capacities, watermarks, 256, m_store, 25) == 23);
-    expect("21 after 23", thymewax_read(&m, 0).number == 21);
-    expect("set-up again", thymewax_model_set_up(&m, capacities, watermarks, 90, m_store, 25) == 0 && same());
-    expect("store", m.store == m_store && m.store_words == 25);
-    expect("output", m.output == NULL && m.output_words == 0);
-    m.output = m_output;
-    m.output_words = 1;
-CALLS
-    replays();
-    m.image[0] = image[0] = 5000;
-    replays();
-    expect("21 of each record", thymewax_model_replay(&m, trace, sizeof trace, 0, 9).number == 0);
-    expect("21 of each record", thymewax_model_replay(&m, trace, sizeof trace, 0, 9).count == 2);
-    expect("21 of each record", thymewax_model_replay(&m, trace, sizeof trace, 0, 9).last.number == 21);
-    return 0;
-}
-'''
-
-# Damages, each of which some check must see: what is replaced where it stands first, and by what.
-DAMAGES = (
-    # prototypes
-    ('uint32_t section, size_t limit', 'size_t limit'),
-    ('const uint8_t *file, size_t file_bytes', 'const uint8_t *file'),
-    ('uint32_t section, size_t limit', 'uint32_t section, uint32_t limit'),
-    ('uint64_t thymewax_step(', 'uint32_t thymewax_step('),
-    ('thymewax_replay(uint32_t *image', 'thymewax_replay(const uint32_t *image'),
-    ('uint32_t cmd_mark, uint32_t cmdr_mark', 'uint32_t cmdr_mark, uint32_t cmd_mark'),
-    ('size_t thymewax_image_words(void);', ''),
-    ('size_t thymewax_image_words(void);', 'size_t thymewax_image_word(void);'),
-    ('size_t thymewax_image_words(void);', 'size_t thymewax_image_words(void);\nsize_t thymewax_a(void);'),
-    ('extern "C" {', 'namespace {'),
-    # registers, numbers, letters
-    ('REG_SCRATCH = 0x008', 'REG_SCRATCH = 0x00c'),
-    ('REG_OPS = 0x100', 'REG_OP = 0x100'),
-    ('    THYMEWAX_REG_IRQ_MASK = 0x080,\n', ''),
-    ('REG_OFFLOAD_SDO = 0x300', 'REG_OFFLOAD_SDO = 0x304'),
-    ('THYMEWAX_SDO_EMPTY = 12', 'THYMEWAX_SDO_EMPTY = 15'),
-    ('THYMEWAX_NOT_CARRIED = 29', 'THYMEWAX_NOT_CARRIED = 30'),
-    ('    THYMEWAX_EMPTY = 3,', ''),
-    ('LETTER_SEND = 0x54', 'LETTER_SEND = 0x58'),
-    ('IMAGE_WORDS 200', 'IMAGE_WORDS 201'),
-    # inline functions
-    ('capacities[0], capacities[1]', 'capacities[1], capacities[0]'),
-    ('watermarks[3], watermarks[4]', 'watermarks[4], watermarks[3]'),
-    ('m->image[i] = 0', '(void)i'),
-    ('m->output = NULL', 'm->output = store'),
-    ('high & 0xffffffffu', 'packed & 0xffffffffu'),
-    ('_INTERRUPT, 0, address, byte', '_INTERRUPT, 0, byte, address'),
-    ('_FINISH, 0, code, 0', '_FINISH, 0, 0, code'),
-    ('thymewax_read(struct thymewax *m, uint32_t', 'thymewax_read(struct thymewax *m, uint16_t'),
-    ('thymewax_write(struct thymewax *m, uint32_t', 'thymewax_write(struct thymewax *m, uint16_t'),
-    ('_LETTER_READ, offset', '_LETTER_READ, offset & 0xffff'),
-    ('_LETTER_WRITE, offset', '_LETTER_WRITE, offset & 0xffff'),
-    ('_RECEIVE, 0, byte', '_RECEIVE, 0, byte & 0xff'),
-    ('_FINISH, 0, code', '_FINISH, 0, code & 0xff'),
-    ('_INTERRUPT, 0, address', '_INTERRUPT, 0, address & 0xff'),
-    ('address, byte);', 'address, byte & 0xff);'),
-    ('replayed.last.value = told[1]', 'replayed.last.value = told[2]'),
-    ('place.bytes = found[1]', 'place.bytes = found[0]'),
-    ('told[3] = {0, 0, 0}', 'told[3] = {0, 0, 1}'),
-    ('found[2] = {0, 0}', 'found[2] = {0, 1}'),
-    # warnings
-    ('uint64_t high = packed >> 32', 'uint32_t high = packed >> 32'),
-    ('size_t words = 0;', 'size_t words = 0; int unused;'),
-)
 
 
 def read(path):
@@ -368,13 +159,6 @@ def wrong_declarations(text):
     return found
 
 
-def program():
-    """The program that makes all calls."""
-    rows = ['    call("%s", %s, %d, %d, %du, %du, %d);' % (made, made, ord(letter), *numbers)
-            for made, letter, *numbers in CALLS]
-    return PROGRAM.replace('CALLS', '\n'.join(rows))
-
-
 def uncalled(text):
     """The inline functions that the program leaves out."""
     inline = re.findall(r'static inline [\w ]*\b(\w+)\(', bare(text))
@@ -430,7 +214,7 @@ def wrong_page(folder):
     if not programs or len(links) != 2 or len(example) != 2:
         return ['docs/C.md: a program, a line for C, one for C++ or those of the example are not there']
     found = []
-    options = {'cwd': folder, 'env': {**os.environ, 'THYMEWAX': ROOT, 'THYMEWAX_LIB_DIR': os.path.abspath(LIBRARY)}}
+    options = {'cwd': folder, 'env': {**os.environ, 'THYMEWAX': str(ROOT), 'THYMEWAX_LIB_DIR': os.path.abspath(LIBRARY)}}
     for text, expected in programs:
         write(folder, 'first.c', text)
         write(folder, 'first.cpp', text)

@@ -1,6 +1,6 @@
 """Which commands were taken, started and finished, and which receipts were read.
 
-Calls and answers are all that it knows, as in the rules demand.started to demand.receipts.
+Calls and answers are all that it knows, as in the rules `demand.started` to `demand.receipts`.
 """
 
 from collections import deque

@@ -11,29 +11,32 @@ import sys
 
 sys.path.insert(0, str(pathlib.Path(__file__).resolve().parents[2]))
 
+from tests.hosts.image_words import (
+    CAPACITY, COMMANDS, DATA, HEAD, INTERRUPT_SYNC, LARGEST, LENGTH, LEVEL, MOST, MOVED, NAMES,
+    PART, PENDING_5, PENDING_6, PENDING_7, PHASE, PLACE, QUEUES, RECEIPT_SYNC, SCRATCH, WATERMARK)
+from tests.scripts.bank import BURST_LENGTH, CMD, LONGEST, MOST_CAPACITY, SDI
 from tests.scripts.lines import lent
 from tests.scripts.source import Source
 from tests.shared.trial import equal, generated, main
 from thymewax import Answer, Call, Model, Number, Register, SetUp, section, session, trace
 from thymewax.calls import DIGITS
-from thymewax.image import WORDS
+from thymewax.image import WORDS, Phase
 from thymewax.library import Word, load
 
 CALLS = [Call(letter) for letter in DIGITS] + [Call('G'), Call('Q'), Call('X', 0, 256)]
 TRACE = trace.join(trace.records([Call('R', 0), Call('R', 4)]))
-MOST = 0xffffffff
 # What a replay tells where it did no record.
 NO_ANSWER = Answer(0, Number.DONE)
 # The numbers that no call of a script has.
 BEFORE_ALL = (Number.NOT_WELL_FORMED, Number.STORE_LENGTH, Number.WRONG_RECORD)
-# Fields of an image: the word, and the least number that no bank has there.
+# Words of an image, and the least number that no bank has there.
 TOO_LARGE = {
-    **{place: 1025 for place in range(0, 20, 4)}, 20: 256, 22: 256, 23: 128, 24: 4, 25: 128, 26: 2,
-    27: 256, 28: 256, 29: 2, 30: 2, 31: 2, 32: 17, 33: 6, 34: 3, 35: 2, 36: 4096, 38: 2,
-    **{place: 8 for place in range(40, 168)},
+    **{queue + CAPACITY: MOST_CAPACITY + 1 for queue in QUEUES},
+    **{place: most + 1 for place, most in LARGEST.items()},
+    PLACE: BURST_LENGTH + 2, LENGTH: LONGEST + 1,
 }
 # Words that may hold any number.
-FREE = {21, *range(168, 200)}
+FREE = {SCRATCH, *COMMANDS, *DATA}
 RANDOM_DAMAGES = 20000
 
 
@@ -52,7 +55,7 @@ def released():
 
 
 def refuses(name, image, store):
-    """Every call, and every record of a replay, is told that the bank is not well formed, and no word
+    """Every call, and every record of a replay, finds the bank not well formed; no word
     changes."""
     model = Model(image, store, [5, 6])
     before = state(model)
@@ -74,30 +77,30 @@ def damaged():
     model = released()
     image, store = model.image(), model.store()
     fresh = Model.set_up().image()
-    rings = image.rings
     for place, least in TOO_LARGE.items():
         for word in {least, least + 1, 0x100 + least, 0x10000 + image[place], MOST}:
-            refuses('word %d is %x' % (place, word), with_word(image, place, word), store)
-    for name, ring, place in zip(rings._fields, rings, range(0, 20, 4)):
-        refuses('%s: capacity 0' % name, with_word(image, place, 0), store)
-        refuses('%s: watermark' % name, with_word(image, place + 1, ring.capacity + 1), store)
-        refuses('%s: head' % name, with_word(image, place + 2, ring.capacity), store)
-        refuses('%s: level' % name, with_word(image, place + 3, ring.capacity + 1), store)
-    for place, capacity in ((0, 1), (12, 1)):
-        refuses('least capacity', with_word(with_word(image, place, capacity), place + 3, 0), store)
-    for place in (2, 3, 27, 28, 29, 30, 31, 33):
-        refuses('word %d in reset' % place, with_word(fresh, place, 1), [0] * 20)
-    for place, word in ((32, 1), (33, 0), (33, 3), (36, 4), (37, 7), (37, 0x100),
-                        (39, MOST)):
-        refuses('open transfer, word %d is %x' % (place, word), with_word(image, place, word),
+            refuses('%s is %x' % (NAMES[place], word), with_word(image, place, word), store)
+    for ring, queue in zip(image.rings, QUEUES):
+        for field, word in ((CAPACITY, 0), (WATERMARK, ring.capacity + 1), (HEAD, ring.capacity),
+                            (LEVEL, ring.capacity + 1)):
+            refuses(NAMES[queue + field], with_word(image, queue + field, word), store)
+    for queue in (QUEUES[CMD], QUEUES[SDI]):
+        small = with_word(image, queue + CAPACITY, 1)
+        refuses('least capacity', with_word(small, queue + LEVEL, 0), store)
+    for place in (QUEUES[CMD] + HEAD, QUEUES[CMD] + LEVEL, RECEIPT_SYNC, INTERRUPT_SYNC, PENDING_5,
+                  PENDING_6, PENDING_7, PHASE):
+        refuses('%s in reset' % NAMES[place], with_word(fresh, place, 1), [0] * 20)
+    for place, word in ((PLACE, 1), (PHASE, Phase.IDLE), (PHASE, Phase.ASSIGNING), (LENGTH, 4),
+                        (MOVED, 7), (MOVED, 0x100), (PART, MOST)):
+        refuses('open transfer, %s is %x' % (NAMES[place], word), with_word(image, place, word),
                 store)
     for length in (0, 1, 199, 201, 400):
         refuses('%d words' % length, (list(image) * 2)[:length], store)
 
 
 def damaged_at_random():
-    """Any words: a call is told that they are no bank, or answered as any other; a refused one changes
-    nothing."""
+    """Any words: a call finds them not well formed, or is answered as any other; a refused one
+    changes nothing."""
     source, not_formed = Source(1), 0
     model = released()
     image, store = model.image(), model.store()

@@ -20,7 +20,7 @@ sys.path.insert(0, str(pathlib.Path(__file__).resolve().parents[2]))
 from tests.hosts.formed_damages import KINDS, single
 from tests.hosts.formed_images import (SEEDS, SET_UPS, WANTED, filled, in_bursts, opened, scripted,
                                        traits)
-from tests.hosts.formed_words import (CAPACITY, COMMANDS, ENABLE, FIELDS, FREE, ID, MOST, NAMES,
+from tests.hosts.image_words import (CAPACITY, COMMANDS, ENABLE, FIELDS, FREE, ID, MOST, NAMES,
                                       OPS, PLACE, TRANSFER)
 from tests.shared.trial import TRIED, Wrong, equal, main, run
 from thymewax import Number, Register

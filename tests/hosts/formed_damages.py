@@ -2,20 +2,16 @@
 
 import itertools
 
-from tests.hosts.formed_words import (
+from tests.hosts.image_words import (
     ATTACHED, CAPACITY, CCC_BIT, CLEAR_IN_RESET, COMMANDS, DATA, ENABLE, FLAGS, HEAD, HEADER,
-    HEADER_BIT, IBI_CONFIG, ID, INTERRUPT_SYNC, IRQ_MASK, KIND, LENGTH, LENGTH_BITS, LEVEL, MOST,
-    MOVED, OPS, PART, PENDING_5, PENDING_6, PENDING_7, PHASE, PLACE, QUEUES, READ_BIT, RECEIPT_SYNC,
-    SELECTED, WATERMARK)
-from tests.scripts.bank import BURST_LENGTH, CARRIED_LENGTH, LEAST_CAPACITIES
+    HEADER_BIT, ID, KIND, LARGEST, LENGTH, LENGTH_BITS, LEVEL, MOST, MOVED, OPS, PART, PHASE, PLACE,
+    QUEUES, READ_BIT, WATERMARK)
+from tests.scripts.bank import (BURST_LENGTH, CARRIED_LENGTH, LEAST_CAPACITIES, LONGEST,
+                                MOST_CAPACITY)
 from tests.scripts.source import Source
 from thymewax import Command
 from thymewax.image import WORDS, Kind, Phase
 
-# The largest number of a field that no other word bounds.
-LARGEST = {ID: 255, IRQ_MASK: 255, OPS: 127, IBI_CONFIG: 3, SELECTED: 127, ENABLE: 1,
-           RECEIPT_SYNC: 255, INTERRUPT_SYNC: 255, PENDING_5: 1, PENDING_6: 1, PENDING_7: 1,
-           PHASE: 5, KIND: 2, HEADER: 1, ATTACHED: 1, **dict.fromkeys(FLAGS, 7)}
 # Of a part word each number of bytes, and the lowest bit of each byte alone.
 PARTS = (0, 0xff000000, 0xffff0000, 0xffffff00, MOST, 1 << 24, 1 << 16, 1 << 8, 1)
 RANDOM_DAMAGES = 300
@@ -33,11 +29,11 @@ def edges(image, place):
     queue = place - place % 4
     if place < ID:
         capacity = image[queue + CAPACITY]
-        bounds = (1, 2, 1024, *image[queue:queue + 4]) if place == queue else (capacity,)
+        bounds = (1, 2, MOST_CAPACITY, *image[queue:queue + 4]) if place == queue else (capacity,)
     elif place == PLACE:
         bounds = (image[OPS] >> 1 & 0xf, BURST_LENGTH)
     elif place == LENGTH:
-        bounds = (image[MOVED], CARRIED_LENGTH, 4095)
+        bounds = (image[MOVED], CARRIED_LENGTH, LONGEST)
     elif place == MOVED:
         bounds = (image[LENGTH], CARRIED_LENGTH)
     elif place in COMMANDS:
@@ -75,14 +71,14 @@ def command_of(image):
 def joined_in_queue(queue):
     """The four numbers of a queue, near the capacity that it gets."""
     least = LEAST_CAPACITIES[queue // 4]
-    for capacity in near(least, 3, 1024):
+    for capacity in near(least, 3, MOST_CAPACITY):
         yield from grid({queue + CAPACITY: [capacity], queue + WATERMARK: near(capacity),
                          queue + HEAD: near(capacity), queue + LEVEL: near(capacity)})
 
 
 def joined_in_transfer(image):
     moved, length = image[MOVED], image[LENGTH]
-    yield from grid({MOVED: near(0, 4, moved, length, 4095), LENGTH: near(0, 4, moved, 4095)})
+    yield from grid({MOVED: near(0, 4, moved, length, LONGEST), LENGTH: near(0, 4, moved, LONGEST)})
     yield from grid({MOVED: {*range(10), length}, PART: PARTS})
     yield from grid({PHASE: range(7), KIND: range(4)})
     yield from grid({PHASE: range(7), KIND: range(4), ATTACHED: range(3), MOVED: (0, 1, 4)})

@@ -2,7 +2,7 @@
 
 import itertools
 
-from tests.hosts.formed_words import (CCC_BIT, ENABLE, FLAGS, HEADER_BIT, PLACE, QUEUES, READ_BIT,
+from tests.hosts.image_words import (CCC_BIT, ENABLE, FLAGS, HEADER_BIT, PLACE, QUEUES, READ_BIT,
                                       SCRATCH)
 from tests.scripts.bank import BURST_LENGTH, LEAST_CAPACITIES
 from tests.scripts.lines import SET_UP, lent, line_pattern, split

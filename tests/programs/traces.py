@@ -36,7 +36,7 @@ CALLS = 100000
 SHORT_CALLS = (1, 2, 7)
 SECTIONS = (1, 2, 7, 64)
 PIECES = (1, 5, 11, 12, 13, 4095, 4096, 4097)
-# How far a program may read past what it needs (replay.program).
+# How far a program may read past what it needs (`replay.program`).
 AHEAD = 65536
 # An endless input, for as long as it matters.
 FILL, FILLS = bytes(4096), 64

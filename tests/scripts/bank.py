@@ -16,12 +16,12 @@ MAPPED = [*Register, *OFFLOAD]
 # Queues by their register: those that a write pushes to, those that a read takes from.
 PUSHING = [Register.CMD_FIFO, Register.SDO_FIFO]
 TAKING = [Register.CMDR_FIFO, Register.SDI_FIFO, Register.IBI_FIFO]
-# Registers that take no write (map.read-only).
+# Registers that take no write (`map.read-only`).
 READ_ONLY = TAKING + [
     Register.CMD_FIFO_ROOM, Register.CMDR_FIFO_LEVEL, Register.SDO_FIFO_ROOM,
     Register.SDI_FIFO_LEVEL, Register.IBI_FIFO_LEVEL, Register.FIFO_STATUS, Register.IRQ_SOURCE,
     Register.VERSION, Register.DEVICE_ID]
-# What a burst locks (burst.holds).
+# What a burst locks (`burst.holds`).
 LOCKED = {Register.OPS, *OFFLOAD}
 
 CMD, CMDR, SDO, SDI, IBI = range(5)
@@ -39,7 +39,7 @@ BURST_LENGTH, CARRIED_LENGTH, OUTPUT_WORDS = 15, 4, 16
 
 
 def carried(word):
-    """Whether a burst carries the command (trigger.tests)."""
+    """Whether a burst carries the command (`trigger.tests`)."""
     command = Command.of(word)
     return not command.ccc and command.length <= CARRIED_LENGTH
 
@@ -73,7 +73,7 @@ class Transfer:
         return ALL_MOVED if self.moved == self.length else PART_MOVED
 
     def endings(self):
-        """The codes that end it (finish.codes)."""
+        """The codes that end it (`finish.codes`)."""
         return ENDINGS[self.kind][self.state()]
 
     def part(self):

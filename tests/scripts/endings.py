@@ -1,4 +1,4 @@
-"""Which codes end a transfer, by its kind and by how far it is (finish.codes).
+"""Which codes end a transfer, by its kind and by how far it is (`finish.codes`).
 
 An allowed code ends the transfer, or finds no room for the receipt; any other code is refused.
 """
@@ -9,7 +9,7 @@ NO_BYTES, NONE_MOVED, PART_MOVED, ALL_MOVED = 'm = L = 0', 'm = 0 < L', '0 < m <
 NO_REQUEST, REQUEST_OPEN, REQUEST_SERVED = 'no request made', 'request open', 'request served'
 
 CODES = range(16)
-# The codes that receipts have, by their names (receipt.codes).
+# The codes that receipts have, by their names (`receipt.codes`).
 NO_ERROR, CE0, CE2, NACK, UNKNOWN = 0, 1, 4, 6, 8
 
 

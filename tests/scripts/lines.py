@@ -1,5 +1,5 @@
 """The lines of scripts: letters, the digits of their fields, which lines are calls
-(session.lines), and which a script with set-ups and bursts has besides.
+(`session.lines`), and which a script with set-ups and bursts has besides.
 
     B and eleven numbers    a set-up
     G                       the trigger of a burst

@@ -1,5 +1,5 @@
-"""What a replay does of a trace, worked out from its bytes (trace.form, trace.wrong,
-replay.program). The format is stated here a second time, apart from thymewax.trace."""
+"""What a replay does of a trace, worked out from its bytes (`trace.form`, `trace.wrong`,
+`replay.program`). The format is stated here a second time, apart from thymewax.trace."""
 
 from operator import le
 

@@ -73,7 +73,7 @@ class Guess(Bank):
         return (self.cmd[0], self.cmd[1]) if len(self.cmd) > 1 else None
 
     def stuck(self):
-        """ENTDAA waits behind data that only a reset takes away (start.blocked)."""
+        """ENTDAA waits behind data that only a reset takes away (`start.blocked`)."""
         command = self.waiting()
         return (bool(self.sdo) and command is not None and command[1] is not None
                 and Ccc.of(command[1]).code == ENTDAA)

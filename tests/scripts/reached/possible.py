@@ -3,10 +3,10 @@
 A script with set-ups and bursts has more of them; `test` says that it is one.
 """
 
-from thymewax import Number, Register
+from thymewax import OFFLOAD_CMD, OFFLOAD_SDO, Number, Register
 from thymewax.calls import TRIGGER
 
-from tests.scripts.bank import LOCKED, MAPPED, OFFLOAD_CMD, OFFLOAD_SDO, PUSHING, READ_ONLY, TAKING
+from tests.scripts.bank import LOCKED, MAPPED, PUSHING, READ_ONLY, TAKING
 from tests.scripts.endings import BURST_ENDINGS, CODES, ENDINGS
 from tests.scripts.lines import SET_UP, SHOW
 
@@ -15,9 +15,9 @@ def named(names):
     return tuple(Number[name] for name in names.split())
 
 
-# For each letter the numbers that a session can give, by the tests of its rule: access.order,
-# start.tests and so on. A session's bank is sound and its store fits, so that it has neither 21 nor
-# 22 (answer.bank).
+# For each letter the numbers that a session can give, by the tests of its rule: `access.order`,
+# `start.tests` and so on. A session's bank is sound and its store fits: it has neither 21 nor 22
+# (`answer.bank`).
 SESSION_PAIRS = {
     'W': named('DONE DROPPED_FULL DROPPED_READ_ONLY NO_REGISTER HELD_IN_RESET'),
     'R': named('DONE EMPTY NO_REGISTER'),
@@ -31,9 +31,9 @@ SESSION_PAIRS = {
     'A': named('DONE HELD_IN_RESET NO_TRANSFER NOT_THIS_KIND SDO_EMPTY WRONG_PARITY'),
 }
 EVENTS = 'STXFIDA' + TRIGGER
-# A refused set-up makes every later call 21 (set-up.refused), but no line lends another store. A
-# burst adds 13 to every event (burst.output), 6 to a write (burst.holds), and the trigger. SHOW is
-# no call of the bank.
+# A refused set-up makes every later call 21 (`set-up.refused`), but no line lends another store. A
+# burst adds 13 to every event (`burst.output`), 6 to a write (`burst.holds`), and the trigger. SHOW
+# is no call of the bank.
 TEST_PAIRS = {**{letter: numbers + (Number.NOT_WELL_FORMED,)
                  for letter, numbers in SESSION_PAIRS.items()},
               TRIGGER: named('DONE HELD_IN_RESET TRANSFER_OPEN NOT_IN_THIS_MODE NOT_WELL_FORMED '
@@ -74,7 +74,7 @@ def name_at(offset):
 
 
 def write_numbers(offset, held, test):
-    """Possible numbers of a write to a register (access.order)."""
+    """Possible numbers of a write to a register (`access.order`)."""
     if test and not held and offset in LOCKED:
         return named('DONE TRANSFER_OPEN')
     if offset in READ_ONLY:
@@ -85,7 +85,7 @@ def write_numbers(offset, held, test):
 
 
 def read_numbers(offset, held):
-    """Possible numbers of a read from a register. In reset the queues are empty (formed.reset)."""
+    """Possible numbers of a read from a register. In reset queues are empty (`formed.reset`)."""
     if offset in TAKING:
         return named('EMPTY') if held else named('DONE EMPTY')
     return named('DONE')
@@ -105,7 +105,7 @@ def accesses(test):
     return wanted
 
 
-# Endings (finish.tests).
+# Endings (`finish.tests`).
 
 def endings():
     """All (kind, state, code, number)."""
@@ -119,7 +119,7 @@ def endings():
 
 
 def burst_endings():
-    """All (kind, state, code, number). An allowed code is done: it needs no room (burst.events)."""
+    """All (kind, state, code, number). An allowed code needs no room (`burst.events`)."""
     return [(kind, state, code, int(Number.DONE if code in allowed else Number.ENDING_NOT_ALLOWED))
             for kind, states in BURST_ENDINGS.items() for state, allowed in states.items()
             for code in CODES]

@@ -14,10 +14,10 @@ def orders(letter, *names):
     return tuple((letter, *(Number[name] for name in pair.split(' before '))) for pair in names)
 
 
-# Calls in which two conditions hold at once, so that the order decides (answer.order). Not in the
-# list: orders that a row of another table shows (2 before 5 in the accesses, 18 in the situations, 5
-# before 7 in each event in reset), pairs that cannot hold at once (1 and 5, as the levels are 0 in
-# reset; 9 and 15), and 7, after which the conditions speak of a transfer that is not there.
+# Calls in which two conditions hold at once, so that the order decides (`answer.order`). Not in the
+# list: orders that a row of another table shows (2 before 5 in the accesses, 18 in the situations,
+# 5 before 7 in each event in reset), pairs that cannot hold at once (1 and 5, as the levels are 0
+# in reset; 9 and 15), and 7, after which the conditions speak of a transfer that is not there.
 ORDERS = (
     *orders('S', 'TRANSFER_OPEN before NOT_IN_THIS_MODE', 'TRANSFER_OPEN before NO_COMMAND',
             'NOT_IN_THIS_MODE before NO_COMMAND'),

@@ -1,4 +1,5 @@
-"""The words of an image, by place and name, and what a command's first word has of a transfer."""
+"""The words of an image by place and name, their bounds, and what of a command's first word a
+transfer has."""
 
 import itertools
 
@@ -32,6 +33,10 @@ FIELDS = [GROUPS.get(place, name) for place, name in enumerate(NAMES)]
 FREE = {'SCRATCH', 'last offload command', 'offload data'}
 
 MOST = 0xffffffff
+# The largest number of a field that no other word bounds.
+LARGEST = {ID: 255, IRQ_MASK: 255, OPS: 127, IBI_CONFIG: 3, SELECTED: 127, ENABLE: 1,
+           RECEIPT_SYNC: 255, INTERRUPT_SYNC: 255, PENDING_5: 1, PENDING_6: 1, PENDING_7: 1,
+           PHASE: 5, KIND: 2, HEADER: 1, ATTACHED: 1, **dict.fromkeys(FLAGS, 7)}
 CCC_BIT, HEADER_BIT, READ_BIT, LENGTH_BITS = (
     Command(ccc=True).word, Command(header=True).word, Command(read=True).word,
     Command(length=0xfff).word)

@@ -6,14 +6,15 @@
 From the repository's root. In README.md and docs/*.md every must-fail edit `crate/name`, function or type `crate::name`,
 definition `File: name`, theorem `crate: name`, test `name.py` and path is there. Every rule that these documents, or a comment
 in crates/ or tests/, cite by name stands in docs/RULES.md: a name with a dot whose first part begins a rule. Prints a line for
-each that is not so. Exit status 0 only if there is none.
+each that is not so. Exit status 0 only if there is none. The tables of rules are left to rules.py.
 """
 
+import os
 import pathlib
 import re
 import sys
 
-from declared import CRATES, EDITS, missing_definitions, missing_functions, missing_theorems, plain, rules, specs
+from declared import CRATES, EDITS, TABLE, missing_definitions, missing_functions, missing_theorems, plain, rows, rules, specs
 
 DOCUMENTS = [pathlib.Path('README.md'), *sorted(pathlib.Path('docs').glob('*.md'))]
 COMMENTED = {'.antt': '--', '.rt': '//', '.edit': '#', '.py': '#', '.sh': '#'}
@@ -23,7 +24,18 @@ FOLDERS = r'(?:\.ci|bench|bindings|crates|docs|examples|include|reference|tests|
 PATH = re.compile(rf'(?<![\w/$.-]){FOLDERS}/[\w/.*-]*[\w*]')
 MADE = ('crates/NAME', 'crates/crate')  # stand for any crate
 RULE_NAME = re.compile(r'(?<![\w./:-])([a-z]+(?:-[a-z]+)*)\.([a-z]+(?:-[a-z]+)*)(?![\w/(:.-]\w|[(\w])')
-FILES = {path.name for path in pathlib.Path().glob('**/*') if path.is_file() and not {'target', '.git'} & set(path.parts)}
+
+
+def files() -> set[str]:
+    """The names of the repository's files, without those of builds."""
+    found = set()
+    for _, folders, names in os.walk('.'):
+        folders[:] = [folder for folder in folders if folder not in ('target', '.git', '__pycache__')]
+        found |= set(names)
+    return found
+
+
+FILES = files()
 SUFFIXES = {name.rpartition('.')[2] for name in FILES}
 
 
@@ -56,7 +68,10 @@ def unruled(text: str, known: set[str]):
 
 
 def wrong_in_document(document: pathlib.Path, known: set[str]):
+    ruled = {number for number, _, _ in rows()} if document == TABLE else ()
     for number, line in plain(document.read_text()):
+        if number in ruled:
+            continue
         for token in re.findall(r'`([^`]+)`', line):
             yield from ((number, text) for text in missing(token))
             if RULE_NAME.fullmatch(token):
@@ -81,7 +96,7 @@ def main() -> None:
     wrong = [f'{path}:{number}: {text}' for path in DOCUMENTS for number, text in wrong_in_document(path, known)]
     sources = sorted({path for pattern in WRITTEN for path in pathlib.Path().glob(pattern)})
     wrong += [f'{path}:{number}: {text}' for path in sources for number, text in wrong_in_comments(path, known)]
-    print('\n'.join(wrong) if wrong else f'{len(DOCUMENTS)} documents, comments of {len(sources)} files: what they cite is there')
+    print('\n'.join(wrong) if wrong else f'{len(DOCUMENTS)} documents and {len(sources)} files: what they cite is there')
     sys.exit(bool(wrong))
 
 

@@ -13,6 +13,8 @@ DEFINITION = re.compile(r'^(?:pub |abbrev |unfoldable |data |record )*([^\s(){}:
 MEMBER = re.compile(r'^  (?:pub )?([^\s(){}:=]+(?: [^\s(){}:=]+)*) :', re.M)
 THEOREM = re.compile(r'^(?:pub )?([^\s(){}:=]+) :', re.M)
 RULE = re.compile(r'\*\*([a-z]+(?:-[a-z]+)*\.[a-z]+(?:-[a-z]+)*)\.?\*\*')
+TABLE = pathlib.Path('docs/TRACEABILITY.md')
+HEAD = '| rule | definition | code | law | must-fail edits | tests |'
 TESTED = ('tests/**/*', 'bindings/rust/tests/*', 'bindings/rust/examples/*')
 
 
@@ -72,6 +74,17 @@ def rules() -> list[tuple[str, str, int]]:
             section = line[3:]
         found += [(name, section, number) for name in RULE.findall(line)]
     return found
+
+
+def rows():
+    """The rows of the tables of rules: line, section, cells."""
+    section, within = '', False
+    for number, line in plain(TABLE.read_text()):
+        if line.startswith('## '):
+            section = line[3:]
+        within = line == HEAD or within and line.startswith('|')
+        if within and line != HEAD and not line.startswith('|---'):
+            yield number, section, [cell.strip() for cell in line.strip('|').split('|')]
 
 
 def names(text: str) -> list[str]:

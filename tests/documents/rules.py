@@ -3,33 +3,19 @@
 
     rules.py
 
-From the repository's root. Every rule of docs/RULES.md has one row in the tables of docs/TRACEABILITY.md with the head HEAD,
-in the same section and order, and every row has a rule. What a row names is there: definitions in specs/, functions in src/,
+From the repository's root. Every rule of docs/RULES.md has one row in the tables of rules of docs/TRACEABILITY.md, in
+the same section and order, and every row has a rule. What a row names is there: definitions in specs/, functions in src/,
 theorems in proofs/, edits, tests that the gate runs. Every must-fail edit names one rule on its second line and stands in
 that rule's row alone. Prints a line for each that is not so. Exit status 0 only if there is none.
 """
 
-import pathlib
 import re
 import sys
 
-from declared import EDITS, gate, missing_definitions, missing_functions, missing_theorems, plain, rules, tests
+from declared import EDITS, TABLE, gate, missing_definitions, missing_functions, missing_theorems, rows, rules, tests
 
-TABLE = pathlib.Path('docs/TRACEABILITY.md')
-HEAD = '| rule | definition | code | law | must-fail edits | tests |'
 CITED = re.compile(r'`([^`]+)`')
 NOTHING = '–'
-
-
-def rows():
-    """The rows of the tables of rules: line number, section, cells."""
-    section, within = '', False
-    for number, line in plain(TABLE.read_text()):
-        if line.startswith('## '):
-            section = line[3:]
-        within = line == HEAD or within and line.startswith('|')
-        if within and line != HEAD and not line.startswith('|---'):
-            yield number, section, [cell.strip() for cell in line.strip('|').split('|')]
 
 
 def missing_edit(cited: str):
@@ -109,7 +95,7 @@ def wrong_edits(known: set[str]):
         lines = path.read_text().splitlines()
         said = [line[6:] for line in lines if line.startswith('rule: ')]
         if len(said) != 1 or not lines[0].startswith('# ') or not lines[1].startswith('rule: '):
-            yield f'{path}: its second line names no rule, or others do'
+            yield f'{path}: not one rule, on its second line'
         elif said[0] not in known:
             yield f'{path}: no rule {said[0]}'
         elif standing.get(name) != said:

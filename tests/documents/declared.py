@@ -45,15 +45,23 @@ def theorems(crate: str) -> set[str]:
 
 
 @functools.cache
-def tests(name: str) -> list[pathlib.Path]:
-    """The tests and examples of this file name."""
-    return [path for pattern in TESTED for path in pathlib.Path().glob(pattern) if path.name == name]
+def tests(cited: str) -> list[pathlib.Path]:
+    """The tests and examples whose path ends so."""
+    return [path for pattern in TESTED for path in pathlib.Path().glob(pattern) if f'/{path.as_posix()}'.endswith(f'/{cited}')]
 
 
 @functools.cache
 def gate() -> str:
-    """What the gate runs."""
+    """The scripts of the gate."""
     return '\n'.join(path.read_text() for path in sorted(pathlib.Path('.ci').iterdir()) if path.is_file())
+
+
+def is_run(path: pathlib.Path) -> bool:
+    """Whether the gate runs a test: cargo those of the crate for Rust, a script each other one by its name."""
+    if path.parent.as_posix() == 'bindings/rust/tests':
+        return True
+    name = path.relative_to('tests').with_suffix('').as_posix() if path.parts[0] == 'tests' else path.stem
+    return re.search(rf'(?<![\w-]){re.escape(name)}(?![\w-])', gate()) is not None
 
 
 def plain(text: str):

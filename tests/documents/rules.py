@@ -12,7 +12,7 @@ that rule's row alone. Prints a line for each that is not so. Exit status 0 only
 import re
 import sys
 
-from declared import EDITS, TABLE, gate, missing_definitions, missing_functions, missing_theorems, rows, rules, tests
+from declared import EDITS, TABLE, is_run, missing_definitions, missing_functions, missing_theorems, rows, rules, tests
 
 CITED = re.compile(r'`([^`]+)`')
 NOTHING = '–'
@@ -32,7 +32,7 @@ def missing_test(cited: str):
     found = tests(name)
     if len(found) != 1:
         yield f'{"several tests" if found else "no test"} {name}'
-    elif found[0].parent.as_posix() != 'bindings/rust/tests' and not re.search(rf'\b{re.escape(found[0].stem)}\b', gate()):
+    elif not is_run(found[0]):
         yield f'the gate does not run {name}'
 
 

@@ -4,9 +4,10 @@
     citations.py
 
 From the repository's root. In README.md and docs/*.md every must-fail edit `crate/name`, function or type `crate::name`,
-definition `File: name`, theorem `crate: name`, test `name.py` and path is there. Every rule that these documents, or a comment
-in crates/ or tests/, cite by name stands in docs/RULES.md: a name with a dot whose first part begins a rule. Prints a line for
-each that is not so. Exit status 0 only if there is none. The tables of rules are left to rules.py.
+definition `File: name`, theorem `crate: name`, test `name.py`, path and point of docs/DECISIONS.md is there. Every rule that
+these documents, or a comment in crates/ or tests/, cite by name stands in docs/RULES.md: a name with a dot whose first part
+begins a rule. The tables of rules are left to rules.py. Prints a line for each that is not so. Exit status 0 only if there is
+none.
 """
 
 import os
@@ -23,6 +24,8 @@ WRITTEN = ('crates/*/specs/**/*.antt', 'crates/*/src/**/*.rt', 'crates/*/proofs/
 FOLDERS = r'(?:\.ci|bench|bindings|crates|docs|examples|include|reference|tests|tools)'
 PATH = re.compile(rf'(?<![\w/$.-]){FOLDERS}/[\w/.*-]*[\w*]')
 MADE = ('crates/NAME', 'crates/crate')  # stand for any crate
+POINT = re.compile(r'(?<![\w/`.-])(?!C99)([A-Z]\d{1,2})(?![\w.-])')
+POINTS = set(re.findall(r'\*\*([A-Z]\d{1,2}) ', pathlib.Path('docs/DECISIONS.md').read_text()))
 RULE_NAME = re.compile(r'(?<![\w./:-])([a-z]+(?:-[a-z]+)*)\.([a-z]+(?:-[a-z]+)*)(?![\w/(:.-]\w|[(\w])')
 
 
@@ -76,6 +79,7 @@ def wrong_in_document(document: pathlib.Path, known: set[str]):
             yield from ((number, text) for text in missing(token))
             if RULE_NAME.fullmatch(token):
                 yield from ((number, text) for text in unruled(token, known))
+        yield from ((number, f'no point {point}') for point in POINT.findall(line) if point not in POINTS)
         for path in PATH.findall(line):
             if not path.startswith(MADE) and not there(path):
                 yield number, f'no {path}'

@@ -44,7 +44,7 @@ TOLD = [
     ('S', 'start: private write to 08, 3 bytes, broadcast header, repeated start (call 11)'),
     ('S', 'start', 'refused: 6, a transfer is open (private write, 0 of 3 bytes moved)'),
     ('T', 'send: a1, byte 1 of 3'),
-    ('X 1', 'receive 01', 'refused: 10, not for this kind of transfer or moment (private write, '
+    ('X 1', 'receive 01', 'refused: 10, not with this transfer, or not now (private write, '
      '1 of 3 bytes moved)'),
     ('F 0', 'finish with no error', 'refused: 14, ending not allowed here (private write, 1 of 3 '
      'bytes moved)'),
@@ -55,7 +55,7 @@ TOLD = [
      '3 bytes, broadcast header, repeated start (call 11)'),
     ('R 0d8', 'read CMDR_FIFO: no error, 3 bytes moved, sync 0; private write to 08, 3 bytes, '
      'broadcast header, repeated start (call 11)'),
-    ('R 0d8', 'read CMDR_FIFO', 'refused: 3, a read of an empty CMDR, SDI or IBI'),
+    ('R 0d8', 'read CMDR_FIFO', 'refused: 3, the queue that was read is empty'),
     ('S', 'start', 'refused: 9, no whole command waits (CMD has 0 of 4 words)'),
     ('W 0d4 00000113', 'write CMD_FIFO: private read from 09, 1 byte'),
     ('S', 'start: private read from 09, 1 byte (call 24)'),

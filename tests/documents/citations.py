@@ -4,10 +4,10 @@
     citations.py
 
 From the repository's root. In README.md and docs/*.md every must-fail edit `crate/name`, function or type `crate::name`,
-definition `File: name`, theorem `crate: name`, test `name.py`, path and point of docs/DECISIONS.md is there. Every rule that
-these documents, or a comment in crates/ or tests/, cite by name stands in docs/RULES.md: a name with a dot whose first part
-begins a rule. The tables of rules are left to rules.py. Prints a line for each that is not so. Exit status 0 only if there is
-none.
+definition `File: name`, theorem `crate: name`, test `name.py`, path, and point of docs/DECISIONS.md is there. Every rule
+that these documents, or a comment in crates/ or tests/, cite by name stands in docs/RULES.md: a name with a dot whose
+first part begins a rule. The tables of rules are left to rules.py. Prints a line for each that is not so. Exit status 0
+only if there is none.
 """
 
 import os
@@ -15,7 +15,10 @@ import pathlib
 import re
 import sys
 
-from declared import CRATES, EDITS, TABLE, missing_definitions, missing_functions, missing_theorems, plain, rows, rules, specs
+sys.path.insert(0, str(pathlib.Path(__file__).resolve().parents[2]))
+
+from tests.documents.declared import (CRATES, EDITS, TABLE, missing_definitions, missing_functions, missing_theorems, plain,
+                                      rows, rules, specs)
 
 DOCUMENTS = [pathlib.Path('README.md'), *sorted(pathlib.Path('docs').glob('*.md'))]
 COMMENTED = {'.antt': '--', '.rt': '//', '.edit': '#', '.py': '#', '.sh': '#'}

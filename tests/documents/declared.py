@@ -6,7 +6,8 @@ import pathlib
 import re
 
 CRATES = {path.name: path for path in sorted(pathlib.Path('crates').iterdir()) if path.is_dir()}
-EDITS = {f'{path.parent.parent.name}/{path.stem}': path for path in sorted(pathlib.Path('crates').glob('*/must-fail/*.edit'))}
+EDITS = {f'{path.parent.parent.name}/{path.stem}': path
+         for path in sorted(pathlib.Path('crates').glob('*/must-fail/*.edit'))}
 
 FUNCTION = re.compile(r'^\s*(?:pub )?(?:extern "C" )?(?:fn|struct|enum|const|mod) (\w+)', re.M)
 DEFINITION = re.compile(r'^(?:pub |abbrev |unfoldable |data |record )*([^\s(){}:=]+)(?: \(.*| :.*)', re.M)
@@ -45,9 +46,10 @@ def theorems(crate: str) -> set[str]:
 
 
 @functools.cache
-def tests(cited: str) -> list[pathlib.Path]:
+def tests_at(cited: str) -> list[pathlib.Path]:
     """The tests and examples whose path ends so."""
-    return [path for pattern in TESTED for path in pathlib.Path().glob(pattern) if f'/{path.as_posix()}'.endswith(f'/{cited}')]
+    return [path for pattern in TESTED for path in pathlib.Path().glob(pattern)
+            if f'/{path.as_posix()}'.endswith(f'/{cited}')]
 
 
 @functools.cache

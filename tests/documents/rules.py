@@ -9,10 +9,14 @@ theorems in proofs/, edits, tests that the gate runs. Every must-fail edit names
 that rule's row alone. Prints a line for each that is not so. Exit status 0 only if there is none.
 """
 
+import pathlib
 import re
 import sys
 
-from declared import EDITS, TABLE, is_run, missing_definitions, missing_functions, missing_theorems, rows, rules, tests
+sys.path.insert(0, str(pathlib.Path(__file__).resolve().parents[2]))
+
+from tests.documents.declared import (EDITS, TABLE, is_run, missing_definitions, missing_functions, missing_theorems, rows,
+                                      rules, tests_at)
 
 CITED = re.compile(r'`([^`]+)`')
 NOTHING = '–'
@@ -29,7 +33,7 @@ def missing_test(cited: str):
     if name.endswith(':'):
         yield from missing_definitions(cited)
         return
-    found = tests(name)
+    found = tests_at(name)
     if len(found) != 1:
         yield f'{"several tests" if found else "no test"} {name}'
     elif not is_run(found[0]):

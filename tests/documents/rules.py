@@ -36,8 +36,6 @@ def missing_test(cited: str):
     found = tests_at(name)
     if len(found) != 1:
         yield f'{"several tests" if found else "no test"} {name}'
-    elif not is_run(found[0]):
-        yield f'the gate does not run {name}'
 
 
 COLUMNS = (('definition', missing_definitions), ('code', missing_functions), ('law', missing_theorems),
@@ -89,6 +87,13 @@ def wrong_rows(known: list[tuple[str, str, int]]):
             break
 
 
+def tests_not_run():
+    """Tests that rows cite and the gate does not run."""
+    cited = {name.split()[0] for _, _, cells in rows() for name in CITED.findall(cells[-1])}
+    for name in sorted(cited):
+        yield from (f'{TABLE}: the gate does not run {path}' for path in tests_at(name) if not is_run(path))
+
+
 def wrong_edits(known: set[str]):
     """Edits without their rule, or not in its row."""
     standing = {}
@@ -109,7 +114,7 @@ def wrong_edits(known: set[str]):
 def main() -> None:
     known = rules()
     names_known = {name for name, _, _ in known}
-    wrong = [*wrong_rows(known), *wrong_edits(names_known)]
+    wrong = [*wrong_rows(known), *tests_not_run(), *wrong_edits(names_known)]
     print('\n'.join(wrong) if wrong else f'{len(known)} rules have their rows, {len(EDITS)} edits their rules')
     sys.exit(bool(wrong))
 

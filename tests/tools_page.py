@@ -12,34 +12,21 @@ page's pictures are there.
 import os
 import pathlib
 import re
+import sys
 import tempfile
 
 from python_trial import ROOT, equal, main, run
 
 from thymewax.library import folder
-from tour import fenced_blocks
+
+sys.path.insert(0, str(ROOT / 'tests/documents'))
+from pages import commands, fenced_blocks
 
 PAGE = ROOT / 'docs/BENCH.md'
-PROMPT, HERE, END = b'$ ', b"<<'END'", b'END\n'
 # What the page must show.
 TOOLS = (b'tools/session', b'tools/replay', b'tools/pack', b'tools/explain', b'tools/wave')
 LEAST = 7
 MOST_BYTES = 100000
-
-
-def commands(block):
-    """The commands of a block, each with its output."""
-    found, waits = [], False
-    for line in block:
-        if waits:
-            found[-1][0] += line
-            waits = line != END
-        elif line.startswith(PROMPT):
-            found.append([line.removeprefix(PROMPT), b''])
-            waits = HERE in line
-        elif found:
-            found[-1][1] += line
-    return found
 
 
 def page():

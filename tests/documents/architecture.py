@@ -1,14 +1,16 @@
 #!/usr/bin/env python3
 """Holds crates.txt, docs/ARCHITECTURE.md and the code that pages show to the crates.
 
-    architecture.py
+    architecture.py            says what is not as it should be
+    architecture.py --write    puts the code that pages show into them anew
 
 Every crate of crates.txt stands in a group, whose heading is a comment `# name: what its crates may know`, and on no crate of
 a later group. The picture under 'Layers' in docs/ARCHITECTURE.md has every group once. Every crate begins with the comment
 that says what it is for. Where the first line of a fenced block in docs/ is a comment with a path under crates/, the other
-lines stand in that file as they are. Prints a line for each that is not so. Exit status 0 only if there is none.
+lines are a function, its contract or a definition as that file has it. Exit status 0 only if all is so.
 """
 
+import pathlib
 import re
 import sys
 from collections.abc import Iterator
@@ -18,6 +20,8 @@ from pages import ROOT, fenced_blocks
 HEADING = re.compile(r'# ([a-z -]+): ')
 CRATE = re.compile(r'(\w+):(.*)')
 SHOWN = re.compile(rb'(?://|--) (crates/\S+)\n')
+NAMED = re.compile(rb'(?:pub )?(?:fn )?[\w-]+\W')
+PAGES = sorted((ROOT / 'docs').glob('*.md'))
 LAYERS = '\n## Layers\n\n```\n'
 LEAST_SHOWN = 3
 
@@ -55,20 +59,50 @@ def untold() -> Iterator[str]:
             yield f'crates/{crate}: no first comment says what it is for'
 
 
+def shown(page: pathlib.Path) -> Iterator[tuple[int, list[bytes], list[bytes]]]:
+    """The code that a page shows: the number of its first line, its lines, and those that its file has."""
+    for number, block in fenced_blocks(page.read_bytes().splitlines(keepends=True)):
+        if len(block) > 1 and (found := SHOWN.fullmatch(block[0])):
+            source = ROOT / found[1].decode()
+            yield number + 1, block[1:], stands(source, block[1:]) if source.exists() else []
+
+
+def stands(source: pathlib.Path, block: list[bytes]) -> list[bytes]:
+    """What a file has where a block begins: to the brace that ends a function, or to what follows a contract or a definition."""
+    begin = NAMED.match(block[0])[0]
+    rest = source.read_bytes().splitlines(keepends=True)
+    while rest and not rest[0].startswith(begin):
+        rest.pop(0)
+    whole = block[-1] == b'}\n'
+    ends = [place for place, line in enumerate(rest) if line in ((b'}\n',) if whole else (b'{\n', b'\n'))]
+    return rest[:ends[0] + whole] if ends else rest
+
+
 def stale() -> Iterator[str]:
     count = 0
-    for page in sorted((ROOT / 'docs').glob('*.md')):
-        for number, block in fenced_blocks(page.read_bytes().splitlines(keepends=True)):
-            if found := SHOWN.fullmatch(block[0] if block else b''):
-                count += 1
-                source = ROOT / found[1].decode()
-                if not source.exists() or b''.join(block[1:]) not in source.read_bytes():
-                    yield f'{page.relative_to(ROOT)}:{number}: not as it stands in {found[1].decode()}'
+    for page in PAGES:
+        for number, block, there in shown(page):
+            count += 1
+            if block != there:
+                yield f'{page.relative_to(ROOT)}:{number}: not as its file has it; --write puts it there'
     if count < LEAST_SHOWN:
         yield f'docs: {count} pieces of code are shown, at least {LEAST_SHOWN} expected'
 
 
+def write() -> None:
+    for page in PAGES:
+        lines = page.read_bytes().splitlines(keepends=True)
+        for number, block, there in sorted(shown(page), reverse=True):
+            if there:
+                lines[number - 1:number - 1 + len(block)] = there
+        page.write_bytes(b''.join(lines))
+
+
 def main() -> None:
+    if sys.argv[1:] == ['--write']:
+        write()
+    elif sys.argv[1:]:
+        sys.exit(__doc__)
     wrong = [*misplaced(), *untold(), *stale()]
     names, crates = groups()
     print('\n'.join(wrong) if wrong else f'{len(crates)} crates in {len(names)} groups; code that pages show is as it is')

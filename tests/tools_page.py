@@ -19,8 +19,8 @@ from python_trial import ROOT, equal, main, run
 
 from thymewax.library import folder
 
-sys.path.insert(0, str(ROOT / 'tests/documents'))
-from pages import commands, fenced_blocks
+sys.path.insert(0, str(ROOT))
+from tests.documents.pages import commands, fenced_blocks
 
 PAGE = ROOT / 'docs/BENCH.md'
 # What the page must show.

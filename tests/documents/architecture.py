@@ -15,7 +15,9 @@ import re
 import sys
 from collections.abc import Iterator
 
-from pages import ROOT, fenced_blocks
+sys.path.insert(0, str(pathlib.Path(__file__).resolve().parents[2]))
+
+from tests.documents.pages import ROOT, fenced_blocks
 
 HEADING = re.compile(r'# ([a-z -]+): ')
 CRATE = re.compile(r'(\w+):(.*)')

@@ -12,7 +12,9 @@ import pathlib
 import re
 import sys
 
-from pages import ROOT, fenced_blocks
+sys.path.insert(0, str(pathlib.Path(__file__).resolve().parents[2]))
+
+from tests.documents.pages import ROOT, fenced_blocks
 
 LINK = re.compile(r'\[[^]]*\]\(([^()\s]+)\)')
 HEADING = re.compile(r'^#{1,6} +(.*?) *#*$')

@@ -3,7 +3,7 @@
 import pathlib
 from collections.abc import Iterator
 
-ROOT = pathlib.Path(__file__).resolve().parent.parent.parent
+ROOT = pathlib.Path(__file__).resolve().parents[2]
 FENCE, PROMPT, HERE, END = b'```', b'$ ', b"<<'END'", b'END\n'
 
 

@@ -10,11 +10,14 @@ status 0 only if all is so and each page shows as many commands as PAGES says.
 """
 
 import difflib
+import pathlib
 import re
 import subprocess
 import sys
 
-from pages import ROOT, commands, fenced_blocks
+sys.path.insert(0, str(pathlib.Path(__file__).resolve().parents[2]))
+
+from tests.documents.pages import ROOT, commands, fenced_blocks
 
 # The pages, and how many commands each has at least.
 PAGES = {'README.md': 1, 'docs/TOUR.md': 6}

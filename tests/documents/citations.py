@@ -5,9 +5,9 @@
 
 From the repository's root. In README.md and docs/*.md every must-fail edit `crate/name`, function or type `crate::name`,
 definition `File: name`, theorem `crate: name`, test `name.py`, path, and point of docs/DECISIONS.md is there. Every rule
-that these documents, or a comment in crates/ or tests/, cite by name stands in docs/RULES.md: a name with a dot whose
-first part begins a rule. The tables of rules are left to rules.py. Prints a line for each that is not so. Exit status 0
-only if there is none.
+that these documents, a comment in crates/ or tests/, or any other source cite by name stands in docs/RULES.md: a name with
+a dot whose first part begins a rule, in documents and other sources between backticks. The tables of rules are left to
+rules.py. Prints a line for each that is not so. Exit status 0 only if there is none.
 """
 
 import os
@@ -24,6 +24,8 @@ DOCUMENTS = [pathlib.Path('README.md'), *sorted(pathlib.Path('docs').glob('*.md'
 COMMENTED = {'.antt': '--', '.rt': '//', '.edit': '#', '.py': '#', '.sh': '#'}
 WRITTEN = ('crates/*/specs/**/*.antt', 'crates/*/src/**/*.rt', 'crates/*/proofs/**/*.antt', 'crates/*/must-fail/*.edit',
            'tests/**/*.py', 'tests/**/*.sh')
+BESIDE = ('bench/**/*.rs', 'bindings/**/*.rs', 'bindings/**/*.py', 'bindings/**/*.md', 'examples/**/*.c', 'include/*.h',
+          'reference/**/*.rs', 'reference/*.md', 'tools/*')  # there a name with a dot is a rule's between backticks alone
 FOLDERS = r'(?:\.ci|bench|bindings|crates|docs|examples|include|reference|tests|tools)'
 PATH = re.compile(rf'(?<![\w/$.-]){FOLDERS}/[\w/.*-]*[\w*]')
 MADE = ('crates/NAME', 'crates/crate')  # stand for any crate
@@ -80,30 +82,37 @@ def wrong_in_document(document: pathlib.Path, known: set[str]):
             continue
         for token in re.findall(r'`([^`]+)`', line):
             yield from ((number, text) for text in missing(token))
-            if RULE_NAME.fullmatch(token):
-                yield from ((number, text) for text in unruled(token, known))
+        yield from ((number, text) for text in unruled(between_backticks(line), known))
         yield from ((number, f'no point {point}') for point in POINT.findall(line) if point not in POINTS)
         for path in PATH.findall(line):
             if not path.startswith(MADE) and not there(path):
                 yield number, f'no {path}'
 
 
-def wrong_in_comments(path: pathlib.Path, known: set[str]):
-    mark = COMMENTED[path.suffix]
+def between_backticks(text: str) -> str:
+    return ' '.join(token for token in re.findall(r'`([^`]+)`', text) if RULE_NAME.fullmatch(token))
+
+
+def wrong_in_source(path: pathlib.Path, known: set[str], commented: bool):
+    """Rules that a source cites and that are none; where commented, in its comments without backticks too."""
     for number, line in enumerate(path.read_text().splitlines(), 1):
-        if mark in line:
-            yield from ((number, text) for text in unruled(line[line.index(mark):], known))
-        else:  # a docstring
-            cited = ' '.join(token for token in re.findall(r'`([^`]+)`', line) if RULE_NAME.fullmatch(token))
-            yield from ((number, text) for text in unruled(cited, known))
+        mark = COMMENTED[path.suffix] if commented else ''
+        text = line[line.index(mark):] if mark and mark in line else between_backticks(line)
+        yield from ((number, wrong) for wrong in unruled(text, known))
+
+
+def sources(patterns: tuple[str, ...]) -> list[pathlib.Path]:
+    return sorted({path for pattern in patterns for path in pathlib.Path().glob(pattern)
+                   if path.is_file() and 'target' not in path.parts})
 
 
 def main() -> None:
     known = {name for name, _, _ in rules()}
     wrong = [f'{path}:{number}: {text}' for path in DOCUMENTS for number, text in wrong_in_document(path, known)]
-    sources = sorted({path for pattern in WRITTEN for path in pathlib.Path().glob(pattern)})
-    wrong += [f'{path}:{number}: {text}' for path in sources for number, text in wrong_in_comments(path, known)]
-    print('\n'.join(wrong) if wrong else f'{len(DOCUMENTS)} documents and {len(sources)} files: what they cite is there')
+    read = [(path, True) for path in sources(WRITTEN)] + [(path, False) for path in sources(BESIDE)]
+    wrong += [f'{path}:{number}: {text}' for path, commented in read
+              for number, text in wrong_in_source(path, known, commented)]
+    print('\n'.join(wrong) if wrong else f'{len(DOCUMENTS)} documents and {len(read)} sources: what they cite is there')
     sys.exit(bool(wrong))
 
 

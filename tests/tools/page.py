@@ -18,31 +18,15 @@ import tempfile
 sys.path.insert(0, str(pathlib.Path(__file__).resolve().parents[2]))
 
 from tests import ROOT
+from tests.documents.pages import commands, fenced_blocks
 from tests.shared.trial import equal, main, run
-from tests.tour import fenced_blocks
 from thymewax.library import folder
 
 PAGE = ROOT / 'docs/BENCH.md'
-PROMPT, HERE, END = b'$ ', b"<<'END'", b'END\n'
 # What the page must show.
 TOOLS = (b'tools/session', b'tools/replay', b'tools/pack', b'tools/explain', b'tools/wave')
 LEAST = 7
 MOST_BYTES = 100000
-
-
-def commands(block):
-    """The commands of a block, each with its output."""
-    found, waits = [], False
-    for line in block:
-        if waits:
-            found[-1][0] += line
-            waits = line != END
-        elif line.startswith(PROMPT):
-            found.append([line.removeprefix(PROMPT), b''])
-            waits = HERE in line
-        elif found:
-            found[-1][1] += line
-    return found
 
 
 def page():

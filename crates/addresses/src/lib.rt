@@ -71,7 +71,7 @@ fn take_number(st: State) -> u32
 fn is_odd(w: u32) -> bool
     ensures { λ r. ⌜ r ≡ eqb (ones (w / 2 ^ 24) % 2) 1 ⌝ }
 {
-    u32::count_ones(w / 16777216) % 2 == 1
+    u32::count_ones(w / 0x1000000) % 2 == 1
 }
 
 // The phase after an address was taken: with a wrong parity bit the request stays open.
@@ -99,5 +99,5 @@ pub fn take_address(st: State, word: u32) -> Effect
     let c = ask(st.control, !odd & (st.levels.sdo.0 <= 1));
     let n = bank::select(odd, 0, number::WRONG_PARITY);
     let o = effect::on_sdo(true, Op::Take(1));
-    effect::done(st, word / 33554432, n, g, c, next, o)
+    effect::done(st, word / 0x2000000, n, g, c, next, o)
 }

@@ -12,5 +12,5 @@ abbrev pub bits : ℕ → ℕ → ℕ → ℕ
 bits hi lo v = v / 2 ^ lo % 2 ^ (suc hi - lo)
 
 -- the weight w where b holds, else 0
-abbrev pub weigh : Bool → ℕ → ℕ
-weigh b w = cond b w 0
+abbrev pub wordIf : Bool → ℕ → ℕ
+wordIf b w = cond b w 0

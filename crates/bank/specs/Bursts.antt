@@ -7,7 +7,7 @@ use lib.ListN.{getD}
 use Rattle.bank.specs.declared.Regs.{Regs}
 use Rattle.bank.specs.declared.Control.{Control}
 use Rattle.bank.specs.declared.Phase.{Phase}
-use Rattle.bank.specs.Bits.{bit, bits, weigh}
+use Rattle.bank.specs.Bits.{bit, bits, wordIf}
 use Rattle.bank.specs.Phases.{writing, reading, transfer, private}
 
 -- `ops.keeps`: the mode is offload
@@ -46,7 +46,7 @@ place c = c .burst - 1
 abbrev pub opens : ℕ → Phase → Bool
 opens w p =
     let t = transfer p in
-    private (t .kind) && eqb (weigh (t .header) 1) (bits 21 21 w) && eqb (t .length .0) (bits 19 8 w) && cond (bit 0 w) (reading p) (writing p)
+    private (t .kind) && eqb (wordIf (t .header) 1) (bits 21 21 w) && eqb (t .length .0) (bits 19 8 w) && cond (bit 0 w) (reading p) (writing p)
 
 -- of `formed.burst`: the bytes in the part word, of a read all that moved, of a write none, since they are in the offload data
 abbrev pub gatheredBytes : Phase → ℕ

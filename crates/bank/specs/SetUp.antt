@@ -54,12 +54,12 @@ bankOf c m held id =
     }
 
 -- `set-up.refused`: a bank of zeros, with ENABLE 0 too, and 23
-abbrev pub refused : SetUp
-refused = record { bank = bankOf zeros zeros false 0; answer = record { value = 0; number = number.setUpOutOfRange } }
+abbrev pub refusedSetUp : SetUp
+refusedSetUp = record { bank = bankOf zeros zeros false 0; answer = record { value = 0; number = number.setUpOutOfRange } }
 
 -- `set-up.fresh`: a bank in reset and 0, where all numbers are in range (`set-up.numbers`)
 unfoldable pub setUp : Sizes → Sizes → ℕ → SetUp
-setUp c m id = cond (leb id 255 && sizesOk c m) (record { bank = bankOf c m true id; answer = record { value = 0; number = 0 } }) refused
+setUp c m id = cond (leb id 255 && sizesOk c m) (record { bank = bankOf c m true id; answer = record { value = 0; number = 0 } }) refusedSetUp
 
 -- the length of a store for these capacities, else 22 (`answer.bank`)
 abbrev pub total : Counts → ℕ

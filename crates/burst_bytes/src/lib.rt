@@ -37,7 +37,7 @@ fn send_number(st: State, commands: &[u32; 16], len: usize) -> u32
     let p = st.phase;
     let n = payload_bytes::byte_number(st, phases::is_writing(p), 0);
     bank::select(
-        trigger::is_lacking(st.regs, commands, len),
+        trigger::is_output_short(st.regs, commands, len),
         number::NO_ROOM,
         n,
     )
@@ -55,7 +55,7 @@ pub fn send(st: State, commands: &[u32; 16], payloads: &[u32; 16], len: usize) -
     let p = st.phase;
     let t = phases::transfer_of(p);
     let w = data_word(st.control, commands, payloads);
-    let byte = w / payload_bytes::weight(t.moved.0) % 256;
+    let byte = w / payload_bytes::weight(t.moved.0) % 0x100;
     let next = payload_bytes::advance(t, 0);
     let g = st.regs;
     let c = st.control;
@@ -71,7 +71,7 @@ fn receive_number(st: State, commands: &[u32; 16], len: usize) -> u32
     let p = st.phase;
     let n = payload_bytes::byte_number(st, phases::is_reading(p), 0);
     bank::select(
-        trigger::is_lacking(st.regs, commands, len),
+        trigger::is_output_short(st.regs, commands, len),
         number::NO_ROOM,
         n,
     )

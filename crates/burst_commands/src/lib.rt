@@ -25,7 +25,7 @@ pub fn span_of(g: Regs) -> usize
 fn is_carried(w: u32) -> bool
     ensures { λ b. ⌜ b ≡ carried w ⌝ }
 {
-    !(w / 0x400000 % 2 == 1) & (w / 256 % 4096 <= 4)
+    !(w / 0x400000 % 2 == 1) & (w / 0x100 % 0x1000 <= 4)
 }
 
 // Whether a burst can run each of the first `n` commands.
@@ -70,7 +70,7 @@ pub fn is_open(w: u32, p: Phase) -> bool
     let header = bank::select(t.header, 1, 0);
     phases::is_private(k)
         & (header == w / 0x200000 % 2)
-        & (t.length.0 == w / 256 % 4096)
+        & (t.length.0 == w / 0x100 % 0x1000)
         & bank::choose(
             bank::low_bit(w),
             phases::is_reading(p),

@@ -31,7 +31,7 @@ fn finish_number(st: State, commands: &[u32; 16], len: usize, code: u8) -> u32
     let n = bank::select(!ends, number::ENDING_NOT_ALLOWED, 0);
     let n = effect::while_open(st.control.held, idle, n);
     bank::select(
-        trigger::is_lacking(st.regs, commands, len),
+        trigger::is_output_short(st.regs, commands, len),
         number::NO_ROOM,
         n,
     )
@@ -52,7 +52,7 @@ fn next_phase(last: bool, flags: &[u8; 128], w: u32) -> Phase
     if last {
         return Phase::Idle;
     }
-    let at = (w / 2 % 128) as usize;
+    let at = (w / 2 % 0x80) as usize;
     start::private_phase(w, flags[at])
 }
 
@@ -76,7 +76,7 @@ pub fn finish(st: State, flags: &[u8; 128], commands: &[u32; 16], len: usize, co
     let w = commands[k];
     let next = next_phase(last, flags, w);
     let g = st.regs;
-    let c = trigger::stand(st.control, after(last, st.control.burst));
+    let c = trigger::burst_at(st.control, after(last, st.control.burst));
     let o = effect::none();
     let d = effect::table_if(reads, Table::Output(place, t.part));
     effect::done_with(st, 0, 0, g, c, next, o, d)

@@ -6,7 +6,7 @@ use Rattle.model.specs.declared.Call.{Call}
 use Rattle.model.specs.declared.Call.the-variants.{Read, Write, Start, Send, Receive, Finish, Interrupt, Request, Take, Trigger}
 use Rattle.model.specs.View.{View}
 use Rattle.model.specs.Decision.{unchanged, _withNumber_}
-use Rattle.model.specs.Bursts.{misfit, within, decide, short, burstFinish}
+use Rattle.model.specs.Bursts.{misfit, burstOr, decide, shortInBurst, burstFinish}
 use Rattle.model.specs.Calls.{finish, interrupt}
 use Rattle.model.specs.Laws.{isAccess}
 use Rattle.effect.specs.Effects.{verdict}
@@ -20,8 +20,8 @@ misfits s (Write o v) e = absurd (false≢true e)
 misfits s Start e = absurd (false≢true e)
 misfits s Send e = absurd (false≢true e)
 misfits s (Receive b) e = absurd (false≢true e)
-misfits s (Finish code) e = stopped s (λ v. misfit (Finish code)) 18 (λ v. within v (burstFinish v code) (finish v code)) e
-misfits s (Interrupt a b) e = stopped s (λ v. misfit (Interrupt a b)) 18 (λ v. short v ⇒ 13 ∣ interrupt v a b) e
+misfits s (Finish code) e = stopped s (λ v. misfit (Finish code)) 18 (λ v. burstOr v (burstFinish v code) (finish v code)) e
+misfits s (Interrupt a b) e = stopped s (λ v. misfit (Interrupt a b)) 18 (λ v. shortInBurst v ⇒ 13 ∣ interrupt v a b) e
 misfits s (Request v w) e = absurd (false≢true e)
 misfits s Take e = absurd (false≢true e)
 misfits s Trigger e = absurd (false≢true e)

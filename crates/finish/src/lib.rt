@@ -44,7 +44,7 @@ fn receipt(code: u8, moved: u32, sync: u8) -> u32
     requires { ⌜ (code ≤ 15) × (moved < 4096) ⌝ }
     ensures { λ r. ⌜ r ≡ receiptWord code moved sync ⌝ }
 {
-    code as u32 * 0x100000 + moved * 256 + sync as u32
+    code as u32 * 0x100000 + moved * 0x100 + sync as u32
 }
 
 // One receipt more: the next sync (`receipt.sync`), and pending bit 5 (`source.receipt`).

@@ -73,7 +73,7 @@ fn triggered(b: Bank, store: usize, output: usize) -> Out
     let f = b.flags;
     let c = b.commands;
     if burst_commands::is_bursting(b.state.control) {
-        let lacks = trigger::is_lacking(b.state.regs, &c, output);
+        let lacks = trigger::is_output_short(b.state.regs, &c, output);
         let barred = offload::bar(b.state, lacks, 6);
         return settled(b, barred);
     }

@@ -8,7 +8,7 @@ ghost use Rattle.bank.specs.Formed.{wellFormed};
 ghost use Rattle.host_model.specs.Host.{triggers, packedOf, toldIn, placedIn};
 use bank::Answer;
 use bank::Bank;
-use playback_model::Told;
+use playback_model::Report;
 
 // A value in the low half, its number in the high half.
 pub fn packed(a: Answer) -> u64
@@ -57,7 +57,7 @@ fn put(ws: &mut [u32], i: usize, w: u32)
 }
 
 // What a replay tells, in lent memory, where records may have been done; its number.
-pub fn tell(t: Told, told: &mut [u32]) -> u32
+pub fn tell(t: Report, told: &mut [u32]) -> u32
     ensures { λ n. ⌜ (n ≡ t .number) × (now (told .exit) ≡ toldIn t (now (told .entry))) ⌝ }
 {
     let n = t.number;

@@ -42,7 +42,7 @@ fn data_byte(sends: bool, byte: u8) -> u8
 fn entry(address: u8, byte: u8, sync: u8) -> u32
     ensures { λ w. ⌜ w ≡ entryWord address byte sync ⌝ }
 {
-    address as u32 * 131072 + byte as u32 * 256 + sync as u32
+    address as u32 * 0x20000 + byte as u32 * 0x100 + sync as u32
 }
 
 // An interrupt accepted: the next sync of entries, and pending bit 6 (`source.interrupt`).

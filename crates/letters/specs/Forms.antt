@@ -54,9 +54,9 @@ forms =
     ∷ form (code "A") false unused unused (λ o v w. Take)
     ∷ []
 
-unfoldable pub find : ℕ → List Form → Option Form
-find l [] = none
-find l (f ∷ fs) = let r = find l fs in cond (eqb l (f .letter)) (some f) r
+unfoldable pub formWith : ℕ → List Form → Option Form
+formWith l [] = none
+formWith l (f ∷ fs) = let r = formWith l fs in cond (eqb l (f .letter)) (some f) r
 
 abbrev pub formOf : ℕ → Option Form
-formOf l = find l forms
+formOf l = formWith l forms

@@ -14,10 +14,10 @@ use Rattle.model.specs.declared.Call.the-variants.{Read, Write, Start, Send, Re
 use Rattle.lines.specs.declared.Reading.{Reading}
 use Rattle.letters.specs.declared.Parsed.{Parsed}
 use Rattle.letters.specs.declared.Parsed.the-variants.{Named, Skipped}
-use Rattle.letters.specs.Forms.{Form, forms, find, formOf}
+use Rattle.letters.specs.Forms.{Form, forms, formWith, formOf}
 use Rattle.letters.specs.Named.{cut, namedBy}
-use Rattle.lines.specs.Lines.{hexOf, allHex, isField, valueOf, before, behind, field, ended, byFields, byLetter, lineNames}
-use Rattle.lines.specs.Automaton.{reading, skipped, digitsOf, opened, eatOf, readingOf, callOf}
+use Rattle.lines.specs.Lines.{hexOf, allHex, isField, valueOf, before, behind, field, noneLeft, byFields, byLetter, lineNames}
+use Rattle.lines.specs.Automaton.{readingWith, skipped, digitsOf, letterRead, eatOf, readingOf, callRead}
 use Rattle.lines.proofs.Choices.{chosen, passed, split, both}
 
 -- ── Digits ────────────────────────────────────────────────────────────────────────────────────────────────────
@@ -94,9 +94,9 @@ stays (b ∷ bytes) = ap (λ (x : Reading). foldl eatOf x bytes) (either (eqb b 
     either false true r = refl
     either false false r = refl
 
-lost : (r : Reading) (bytes : List ℕ) → r ≡ skipped → callOf (foldl eatOf r bytes) ≡ Skipped
-unfolding forms find
-lost r bytes e = ap (λ (x : Reading). callOf (foldl eatOf x bytes)) e ∙ ap callOf (stays bytes)
+lost : (r : Reading) (bytes : List ℕ) → r ≡ skipped → callRead (foldl eatOf r bytes) ≡ Skipped
+unfolding forms formWith
+lost r bytes e = ap (λ (x : Reading). callRead (foldl eatOf x bytes)) e ∙ ap callRead (stays bytes)
 
 -- what is named once a field ends: `first` and `v` are the last two values, n and m the digits of the fields to come, K the call by the last two values
 unfoldable rest : (ℕ → ℕ → Parsed) → ℕ → ℕ → ℕ → ℕ → List (List ℕ) → Parsed
@@ -112,20 +112,20 @@ turned true x y = refl
 turned false x y = refl
 
 reads : (l room n m : ℕ) (bare : Bool) (first v k : ℕ) (bytes : List ℕ) → eqb l 0 ≡ false → n ≤ 8 → m ≤ 8 → v < 16 ^ k → k + room ≤ 8
-    → callOf (foldl eatOf (reading l room n m bare first v) bytes) ≡ hand (namedBy (formOf l)) room n m bare first v (before 0x20 bytes) (behind 0x20 bytes)
+    → callRead (foldl eatOf (readingWith l room n m bare first v) bytes) ≡ hand (namedBy (formOf l)) room n m bare first v (before 0x20 bytes) (behind 0x20 bytes)
 unfolding before behind rest
 reads l room n m bare first v k [] q hn hm s t = turned bare (cond (eqb n 0) (namedBy (formOf l) first v) Skipped) Skipped
 reads l room n m bare first v k (b ∷ bytes) q hn hm s t =
     let K = namedBy (formOf l) in
-    let r = reading l room n m bare first v in
+    let r = readingWith l room n m bare first v in
     let part = before 0x20 bytes in
     let parts = behind 0x20 bytes in
     split (eqb b 0x20)
     (λ e. split bare (λ f. lost (eatOf r b) bytes (rw (q, e, f)) ∙ rw (e, f))
     (λ f. split (eqb n 0) (λ z. lost (eatOf r b) bytes (rw (q, e, f, z)) ∙ rw (e, f, z))
     (λ z.
-    let step : eatOf r b ≡ reading l n m 0 true v 0 = rw (q, e, f, z) in
-    ap (λ (x : Reading). callOf (foldl eatOf x bytes)) step
+    let step : eatOf r b ≡ readingWith l n m 0 true v 0 = rw (q, e, f, z) in
+    ap (λ (x : Reading). callRead (foldl eatOf x bytes)) step
     ∙ reads l n m 0 true v 0 0 bytes q hm (omega arith) (omega arith) (omega arith)
     ∙ ap (λ (x : Bool). cond x (rest K m 0 v (valueOf part) parts) Skipped) (begins n part)
     ∙ rw (e, f, z))))
@@ -140,21 +140,21 @@ reads l room n m bare first v k (b ∷ bytes) q hn hm s t =
     let o : room ≡ 0 → ⊥ = eqb-false room 0 z in
     let top : 16 ^ k ≤ 16 ^ 7 = let h : k ≤ 7 = omega arith in pow-le-pow-right (omega arith) h in
     let u : v < 0x10000000 = omega (arith, s, top) in
-    let step : eatOf r b ≡ reading l (room - 1) n m false first (v * 16 + hexOf b) = rw (q, e, f, z, mod-eq-of-lt u) in
-    ap (λ (x : Reading). callOf (foldl eatOf x bytes)) step
+    let step : eatOf r b ≡ readingWith l (room - 1) n m false first (v * 16 + hexOf b) = rw (q, e, f, z, mod-eq-of-lt u) in
+    ap (λ (x : Reading). callRead (foldl eatOf x bytes)) step
     ∙ reads l (room - 1) n m false first (v * 16 + hexOf b) (suc k) bytes q hn hm (grown v (hexOf b) k s (omega arith)) (omega arith)
     ∙ rw (e, small, lt-ltb 0 room (omega arith)))))
 
 -- ── A row ─────────────────────────────────────────────────────────────────────────────────────────────────────
 -- behind the last field, where the last is to come, and where two are; no remainder cuts a field's value
 module _ (K : ℕ → ℕ → Parsed) where
-  ends : (c : Call) (first v : ℕ) → K first v ≡ Named c → (parts : List (List ℕ)) → rest K 0 0 first v parts ≡ ended c parts
+  ends : (c : Call) (first v : ℕ) → K first v ≡ Named c → (parts : List (List ℕ)) → rest K 0 0 first v parts ≡ noneLeft c parts
   unfolding rest
   ends c first v e [] = e
   ends c first v e (part ∷ parts) = refl
 
   one-more : (g : ℕ → Call) (d first v : ℕ) → ((w : ℕ) → K v w ≡ Named (g (cut (suc d) w))) → (parts : List (List ℕ))
-      → rest K (suc d) 0 first v parts ≡ field (suc d) parts (λ w parts₁. ended (g w) parts₁)
+      → rest K (suc d) 0 first v parts ≡ field (suc d) parts (λ w parts₁. noneLeft (g w) parts₁)
   unfolding rest
   one-more g d first v h [] = rw (ne-eqb (suc d) 0 (λ e. omega (arith, e)))
   one-more g d first v h (part ∷ parts) =
@@ -165,7 +165,7 @@ module _ (K : ℕ → ℕ → Parsed) where
       (λ e. passed _ _ _ e ∙ sym (passed _ _ _ e))
 
   two-more : (g : ℕ → ℕ → Call) (d d′ first v : ℕ) → ((w x : ℕ) → K w x ≡ Named (g (cut (suc d) w) (cut (suc d′) x))) → (parts : List (List ℕ))
-      → rest K (suc d) (suc d′) first v parts ≡ field (suc d) parts (λ w parts₁. field (suc d′) parts₁ (λ x parts₂. ended (g w x) parts₂))
+      → rest K (suc d) (suc d′) first v parts ≡ field (suc d) parts (λ w parts₁. field (suc d′) parts₁ (λ x parts₂. noneLeft (g w x) parts₂))
   unfolding rest
   two-more g d d′ first v h [] = rw (ne-eqb (suc d) 0 (λ e. omega (arith, e)))
   two-more g d d′ first v h (part ∷ parts) =
@@ -209,7 +209,7 @@ alone l f e r [] parts = r parts ∙ ap (λ (o : Option Form). byFields o parts)
 alone l f e r (b ∷ bytes) parts = split (ltb (hexOf b) 16) (λ t. rw t) (λ t. rw t)
 
 module _ (l : ℕ) (bytes : List ℕ) where
-  by-row : (f : Form) → l ≡ f .letter → formOf l ≡ some f → Bounded f → IsRead f → callOf (foldl eatOf (opened (some f)) bytes) ≡ lineNames (l ∷ bytes)
+  by-row : (f : Form) → l ≡ f .letter → formOf l ≡ some f → Bounded f → IsRead f → callRead (foldl eatOf (letterRead (some f)) bytes) ≡ lineNames (l ∷ bytes)
   unfolding before behind
   by-row f g e h r =
       reads (f .letter) 0 (next f) (last f) false 0 0 0 bytes (ne-eqb (f .letter) 0 (λ z. omega (arith, z, h .0))) (h .1) (h .2) (omega arith) (omega arith)
@@ -218,7 +218,7 @@ module _ (l : ℕ) (bytes : List ℕ) where
       ∙ rw (ne-eqb l 0x20 (λ z. omega (arith, z, g, h .0)))
 
   -- a byte that is no letter
-  no-row : formOf l ≡ none → callOf (foldl eatOf (opened none) bytes) ≡ lineNames (l ∷ bytes)
+  no-row : formOf l ≡ none → callRead (foldl eatOf (letterRead none) bytes) ≡ lineNames (l ∷ bytes)
   unfolding before behind
   no-row e =
       lost skipped bytes refl
@@ -229,19 +229,19 @@ module _ (l : ℕ) (bytes : List ℕ) where
       other [] parts = ap (λ (o : Option Form). byFields o parts) e
       other (b ∷ part) parts = refl
 
-  by-rows : (fs : List Form) → All Bounded fs → All IsRead fs → formOf l ≡ find l fs → callOf (foldl eatOf (opened (find l fs)) bytes) ≡ lineNames (l ∷ bytes)
-  unfolding find
+  by-rows : (fs : List Form) → All Bounded fs → All IsRead fs → formOf l ≡ formWith l fs → callRead (foldl eatOf (letterRead (formWith l fs)) bytes) ≡ lineNames (l ∷ bytes)
+  unfolding formWith
   by-rows [] a r e = no-row e
   by-rows (f ∷ fs) a r e =
       split (eqb l (f .letter))
       (λ t.
-      let is : find l (f ∷ fs) ≡ some f = chosen (eqb l (f .letter)) (some f) (find l fs) t in
-      ap (λ (o : Option Form). callOf (foldl eatOf (opened o) bytes)) is ∙ by-row f (eqb-true l (f .letter) t) (e ∙ is) (a .0) (r .0))
+      let is : formWith l (f ∷ fs) ≡ some f = chosen (eqb l (f .letter)) (some f) (formWith l fs) t in
+      ap (λ (o : Option Form). callRead (foldl eatOf (letterRead o) bytes)) is ∙ by-row f (eqb-true l (f .letter) t) (e ∙ is) (a .0) (r .0))
       (λ t.
-      let is : find l (f ∷ fs) ≡ find l fs = passed (eqb l (f .letter)) (some f) (find l fs) t in
-      ap (λ (o : Option Form). callOf (foldl eatOf (opened o) bytes)) is ∙ by-rows fs (a .1) (r .1) (e ∙ is))
+      let is : formWith l (f ∷ fs) ≡ formWith l fs = passed (eqb l (f .letter)) (some f) (formWith l fs) t in
+      ap (λ (o : Option Form). callRead (foldl eatOf (letterRead o) bytes)) is ∙ by-rows fs (a .1) (r .1) (e ∙ is))
 
-pub reads-the-grammar : (line : List ℕ) → callOf (readingOf line) ≡ lineNames line
-unfolding forms find before behind
+pub reads-the-grammar : (line : List ℕ) → callRead (readingOf line) ≡ lineNames line
+unfolding forms formWith before behind
 reads-the-grammar [] = refl
 reads-the-grammar (l ∷ bytes) = by-rows l bytes forms all-bounded all-read refl

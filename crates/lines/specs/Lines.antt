@@ -51,9 +51,9 @@ field (suc d) [] goes-on = Skipped
 field (suc d) (part ∷ parts) goes-on = cond (isField (suc d) part) (goes-on (valueOf part) parts) Skipped
 
 -- no part is left
-abbrev pub ended : Call → List (List ℕ) → Parsed
-ended c [] = Named c
-ended c (part ∷ parts) = Skipped
+abbrev pub noneLeft : Call → List (List ℕ) → Parsed
+noneLeft c [] = Named c
+noneLeft c (part ∷ parts) = Skipped
 
 abbrev pub byFields : Option Form → List (List ℕ) → Parsed
 byFields none parts = Skipped
@@ -61,7 +61,7 @@ byFields (some f) parts =
     field (offsetDigits (f .fields)) parts (λ o parts₁.
     field (f .fields .first) parts₁ (λ v parts₂.
     field (f .fields .second) parts₂ (λ w parts₃.
-    ended (f .call o v w) parts₃)))
+    noneLeft (f .call o v w) parts₃)))
 
 -- a letter alone stands before the first blank
 abbrev pub byLetter : List ℕ → List (List ℕ) → Parsed

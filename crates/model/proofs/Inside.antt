@@ -12,14 +12,14 @@ use Rattle.bank.specs.declared.Transfer.{Transfer}
 use Rattle.bank.specs.declared.Phase.{Phase}
 use Rattle.bank.specs.declared.Phase.the-variants.{Idle, Writing, Reading, Unrequested, Requested, Answered}
 use Rattle.bank.specs.declared.Answer.{Answer}
-use Rattle.bank.specs.Bits.{bit, bits, weigh}
+use Rattle.bank.specs.Bits.{bit, bits, wordIf}
 use Rattle.bank.specs.Phases.{idle, writing, reading, assigning, requested, transfer, unattached, limit}
 use Rattle.bank.specs.Bursts.{span, readsIn, writesIn, bursting, place, gatheredBytes}
 use Rattle.bank.specs.SetUp.{total}
 use Rattle.bank.specs.Formed.{wellFormed}
 use Rattle.bank.proofs.Bools.{or-left, and-true, three}
 use Rattle.bank.proofs.Laws.{formed-is, formed-of}
-use Rattle.registers.specs.Map.{named, find, registerAt}
+use Rattle.registers.specs.Map.{named, entryAt, registerAt}
 use Rattle.model.specs.declared.Call.{Call}
 use Rattle.model.specs.declared.Call.the-variants.{Read, Write, Start, Send, Receive, Finish, Interrupt, Request, Take, Trigger}
 use Rattle.model.specs.View.{View}
@@ -27,7 +27,7 @@ use Rattle.model.specs.Decision.{Decision, effect}
 use Rattle.model.specs.Commands.{Single, isEntdaa, isRead, opened, begun}
 use Rattle.model.specs.Registers.{Cell, scratch, mask, ops, ibiConfig, devChar, offloadCmd, offloadSdo, Row, absent, shows, holds, pushes, takes, enables, acknowledges, row, enable, read, write}
 use Rattle.model.specs.Calls.{start, send, receive, finish, interrupt, request, takeAddress}
-use Rattle.model.specs.Bursts.{opening, lastly, delivered, dataWord, trigger, burstSend, burstReceive, burstFinish, decide}
+use Rattle.model.specs.Bursts.{opening, lastCommand, delivered, dataWord, trigger, burstSend, burstReceive, burstFinish, decide}
 use Rattle.model.specs.Engine.{step}
 use Rattle.model.specs.Rings.{Controller, viewRings, rings}
 use Rattle.model.specs.Demand.{snoc}
@@ -101,12 +101,12 @@ words-one ws k (x ∷ ts) t = go (bit 0 (getD ws k 0)) (words-one ws (suc k) ts 
     go false h = h
 
 -- ── How many words the reads have ─────────────────────────────────────────────────────────────────────────────
-bit-weighs : (x : ℕ) → x < 2 → x ≡ weigh (eqb x 1) 1
+bit-weighs : (x : ℕ) → x < 2 → x ≡ wordIf (eqb x 1) 1
 bit-weighs zero h = refl
 bit-weighs (suc zero) h = refl
 bit-weighs (suc (suc x)) h = absurd (omega arith)
 
-read-weighs : (w : ℕ) → bits 0 0 w ≡ weigh (bit 0 w) 1
+read-weighs : (w : ℕ) → bits 0 0 w ≡ wordIf (bit 0 w) 1
 read-weighs w = bit-weighs (bits 0 0 w) (let k : w / 1 % 2 < 2 = omega arith in k)
 
 words-count : (ws : List ℕ) (k : ℕ) (ts : List Moved) → readsIn k ws + length (readWords ws k ts) ≡ readsIn (k + length ts) ws
@@ -119,7 +119,7 @@ words-count ws k (t ∷ ts) =
     let e : suc k + length ts ≡ k + suc (length ts) = omega arith in
     go (bit 0 (getD ws k 0)) (read-weighs (getD ws k 0)) (words-count ws (suc k) ts ∙ ap (λ (n : ℕ). readsIn n ws) e)
   where
-    go : (b : Bool) → bits 0 0 (getD ws k 0) ≡ weigh b 1 → readsIn k ws + bits 0 0 (getD ws k 0) + length (readWords ws (suc k) ts) ≡ readsIn (k + suc (length ts)) ws
+    go : (b : Bool) → bits 0 0 (getD ws k 0) ≡ wordIf b 1 → readsIn k ws + bits 0 0 (getD ws k 0) + length (readWords ws (suc k) ts) ≡ readsIn (k + suc (length ts)) ws
         → readsIn k ws + length (cond b (packed 0 (t .received) ∷ readWords ws (suc k) ts) (readWords ws (suc k) ts)) ≡ readsIn (k + suc (length ts)) ws
     go true e h = omega (arith, e, h)
     go false e h = omega (arith, e, h)
@@ -149,7 +149,7 @@ words-done ws ts =
     f ∙ words-count ws 0 ts ∙ ap (λ (n : ℕ). readsIn n ws) e
 
 -- ── The output at a finish ────────────────────────────────────────────────────────────────────────────────────
-stored-word : (b : Bool) (xs o : List ℕ) (n u v : ℕ) → length xs ≡ n → n + weigh b 1 ≤ length o → (b ≡ true → u ≡ v) → cond b (set (xs ++ drop n o) n u) (xs ++ drop n o) ≡ xs ++ cond b (v ∷ []) [] ++ drop (n + weigh b 1) o
+stored-word : (b : Bool) (xs o : List ℕ) (n u v : ℕ) → length xs ≡ n → n + wordIf b 1 ≤ length o → (b ≡ true → u ≡ v) → cond b (set (xs ++ drop n o) n u) (xs ++ drop n o) ≡ xs ++ cond b (v ∷ []) [] ++ drop (n + wordIf b 1) o
 stored-word true xs o n u v e h p =
     let f : suc n ≡ n + 1 = omega arith in
     let l : n < length o = omega arith in
@@ -271,7 +271,7 @@ calm-if-quiet enables v h = absurd (false≢true h)
 calm-if-quiet acknowledges v h = refl
 
 calm-row : (o v : ℕ) → resets (Write o v) ≡ false → calm (row (registerAt o)) v ≡ true
-unfolding named find
+unfolding named entryAt
 calm-row o v h = go (eqb o 0x040) (eqb o 0x0d4) refl refl
   where
     go : (a b : Bool) → eqb o 0x040 ≡ a → eqb o 0x0d4 ≡ b → calm (row (registerAt o)) v ≡ true
@@ -419,7 +419,7 @@ module _ (l : Controller) (g : Log) (s : View) (h : GoesOn l s g) (o : Opened s)
       let n = length-snoc (g .done) (g .now) in
       let b = h .stands in
       let p = same-span in
-      let e : lastly s ≡ false = lt-leb (span (s .regs)) (s .control .burst) (omega (arith, k, n, b, p)) in
+      let e : lastCommand s ≡ false = lt-leb (span (s .regs)) (s .control .burst) (omega (arith, k, n, b, p)) in
       subst (λ (z : Bool). Going l (s .regs .ops) (cond z 0 (s .control .burst + 1)) (cond z Idle (opening s (s .control .burst))) (s .tables .commands) (s .tables .payloads) (delivered s .output) (record { done = snoc (g .done) (g .now); now = untouched })) (sym e)
       (record {
         sameOps = h .sameOps;

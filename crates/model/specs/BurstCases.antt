@@ -7,11 +7,11 @@ use Rattle.model.specs.declared.Call.{Call}
 use Rattle.model.specs.declared.Call.the-variants.{Read, Write, Start, Send, Receive, Finish, Interrupt, Request, Take, Trigger}
 use Rattle.model.specs.Rings.{Controller, rings}
 use Rattle.model.specs.BurstLaw.{after}
-use Rattle.model.specs.Cases.{session, Line, _⇝_·_, answered, release}
+use Rattle.model.specs.Cases.{workedSession, Line, _⇝_·_, answered, release}
 
 -- the session with an output lent
 abbrev pub lent : List ℕ → Controller
-lent o = rings .lend o session
+lent o = rings .lend o workedSession
 
 unfoldable pub callsOf : List Line → List Call
 callsOf [] = []
@@ -49,8 +49,8 @@ refusing =
 
 -- `burst.output`: a burst of one read is open, and the output lent is too short: 13 at each event, right after 18. A reset closes the
 -- burst.
-unfoldable pub opened : List Line
-opened = release ⇝ 0 · 0 ∷ Write 0x180 0x1102 ⇝ 0 · 0 ∷ Write 0x2c0 0x411 ⇝ 0 · 0 ∷ Write 0x100 0x03 ⇝ 0 · 0 ∷ Trigger ⇝ 0 · 0 ∷ []
+unfoldable pub openedBurst : List Line
+openedBurst = release ⇝ 0 · 0 ∷ Write 0x180 0x1102 ⇝ 0 · 0 ∷ Write 0x2c0 0x411 ⇝ 0 · 0 ∷ Write 0x100 0x03 ⇝ 0 · 0 ∷ Trigger ⇝ 0 · 0 ∷ []
 
 unfoldable pub shortened : List Line
 shortened =
@@ -61,4 +61,4 @@ pub record BurstsWork : Type 0 where
   pub sampled : Works (0xffffffff ∷ 0xffffffff ∷ 0xffffffff ∷ 0xffffffff ∷ []) sampling (0x01020300 ∷ 0 ∷ 0 ∷ 0xffffffff ∷ [])
   pub attached : Works (0 ∷ []) attaching (0x01020304 ∷ [])
   pub refused : Works [] refusing []
-  pub shorter : answered (rings .lend [] (after (lent (0 ∷ [])) (callsOf opened))) shortened ≡ true
+  pub shorter : answered (rings .lend [] (after (lent (0 ∷ [])) (callsOf openedBurst))) shortened ≡ true

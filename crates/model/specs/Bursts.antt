@@ -24,16 +24,16 @@ abbrev pub opening : View → ℕ → Phase
 opening s k = let c = Single (getD (s .tables .commands) k 0) in begun c (attached s c)
 
 -- the control bits where the burst stands at command n, counted from 1; 0 closes it
-abbrev pub standing : ℕ → Control → Control
-standing n c = record { held = c .held; sync = c .sync; ibisync = c .ibisync; cmdrpending = c .cmdrpending; ibipending = c .ibipending; daapending = c .daapending; burst = n }
+abbrev pub burstAt : ℕ → Control → Control
+burstAt n c = record { held = c .held; sync = c .sync; ibisync = c .ibisync; cmdrpending = c .cmdrpending; ibipending = c .ibipending; daapending = c .daapending; burst = n }
 
 -- the lent output has fewer words than the burst of OPS and the offload commands has reads
-abbrev pub lacking : View → Bool
-lacking s = ltb (length (s .tables .output)) (readsIn (span (s .regs)) (s .tables .commands))
+abbrev pub outputShort : View → Bool
+outputShort s = ltb (length (s .tables .output)) (readsIn (span (s .regs)) (s .tables .commands))
 
 -- `burst.output`: 13 at any event, where a burst is open and the output is too short for it
-unfoldable pub short : View → Bool
-short s = bursting (s .control) && lacking s
+unfoldable pub shortInBurst : View → Bool
+shortInBurst s = bursting (s .control) && outputShort s
 
 -- ── Trigger ───────────────────────────────────────────────────────────────────────────────────────────────────
 -- `trigger.tests`, `trigger.opens`: the burst stands at its first command, whose transfer opens
@@ -44,8 +44,8 @@ trigger s =
     ∣ not (offloads (s .regs)) ⇒ number.notInThisMode
     ∣ eqb (span (s .regs)) 0 ⇒ number.burstHasNoCommands
     ∣ not (allCarried (span (s .regs)) (s .tables .commands)) ⇒ number.notCarried
-    ∣ lacking s ⇒ number.noRoom
-    ∣ does (unchanged s withControl standing 1 (s .control) withPhase opening s 0)
+    ∣ outputShort s ⇒ number.noRoom
+    ∣ does (unchanged s withControl burstAt 1 (s .control) withPhase opening s 0)
 
 -- ── Events in an open burst: `burst.events` ───────────────────────────────────────────────────────────────────
 -- `burst.bytes`: the data word of a write is told by how many writes stand before it
@@ -75,8 +75,8 @@ burstReceive s byte =
     ∣ does (unchanged s withPhase Reading (advanced t (t .part + byte * 2 ^ (24 - 8 * t .moved .0))))
 
 -- the transfer is that of the last command
-abbrev pub lastly : View → Bool
-lastly s = leb (span (s .regs)) (s .control .burst)
+abbrev pub lastCommand : View → Bool
+lastCommand s = leb (span (s .regs)) (s .control .burst)
 
 -- `burst.finish`: of a read the part word goes to the output, at the place that the number of reads before it tells
 abbrev pub delivered : View → Tables
@@ -93,16 +93,16 @@ burstFinish s code =
     s .control .held ⇒ number.heldInReset
     ∣ idle (s .phase) ⇒ number.noTransfer
     ∣ not (allowed (s .phase) code) ⇒ number.endingNotAllowed
-    ∣ does (unchanged s withControl standing (cond (lastly s) 0 (n + 1)) (s .control) withPhase cond (lastly s) Idle (opening s n) withTables delivered s)
+    ∣ does (unchanged s withControl burstAt (cond (lastCommand s) 0 (n + 1)) (s .control) withPhase cond (lastCommand s) Idle (opening s n) withTables delivered s)
 
 -- ── Any call ──────────────────────────────────────────────────────────────────────────────────────────────────
 -- `burst.output`: the test of the lent output, ahead of an event's own
 abbrev pub outputFirst : View → Decision → Decision
-outputFirst s d = short s ⇒ number.noRoom ∣ d
+outputFirst s d = shortInBurst s ⇒ number.noRoom ∣ d
 
 -- an event that an open burst serves: decided by `inside` in a burst, by `outside` else
-abbrev pub within : View → Decision → Decision → Decision
-within s inside outside = outputFirst s (cond (bursting (s .control)) inside outside)
+abbrev pub burstOr : View → Decision → Decision → Decision
+burstOr s inside outside = outputFirst s (cond (bursting (s .control)) inside outside)
 
 -- `answer.range`: the code of a finish, or the address of an interrupt request
 abbrev pub misfit : Call → Bool
@@ -124,9 +124,9 @@ abbrev pub decide : View → Call → Decision
 decide s (Read o) = read (row (registerAt o)) s
 decide s (Write o v) = write (row (registerAt o)) s v
 decide s Start = outputFirst s (start s)
-decide s Send = within s (burstSend s) (send s)
-decide s (Receive byte) = within s (burstReceive s byte) (receive s byte)
-decide s (Finish code) = misfit (Finish code) ⇒ number.outOfRange ∣ within s (burstFinish s code) (finish s code)
+decide s Send = burstOr s (burstSend s) (send s)
+decide s (Receive byte) = burstOr s (burstReceive s byte) (receive s byte)
+decide s (Finish code) = misfit (Finish code) ⇒ number.outOfRange ∣ burstOr s (burstFinish s code) (finish s code)
 decide s (Interrupt a byte) = misfit (Interrupt a byte) ⇒ number.outOfRange ∣ outputFirst s (interrupt s a byte)
 decide s (Request v w) = outputFirst s (request s v w)
 decide s Take = outputFirst s (takeAddress s)

@@ -61,26 +61,26 @@ abbrev pub reached : Transfer → Bool
 reached t = leb (t .length .0) (t .moved .0)
 
 -- the next byte is the first of its word
-abbrev pub fresh : Transfer → Bool
-fresh t = eqb (t .moved .0 % 4) 0
+abbrev pub firstOfWord : Transfer → Bool
+firstOfWord t = eqb (t .moved .0 % 4) 0
 
 -- the next byte is the fourth of its word
-abbrev pub fills : Transfer → Bool
-fills t = eqb (t .moved .0 % 4) 3
+abbrev pub lastOfWord : Transfer → Bool
+lastOfWord t = eqb (t .moved .0 % 4) 3
 
 -- `send.tests`, `send.byte`. The byte sent is the top one (`payload.order`); the bytes that are left of the word move up in the part word
 -- (`formed.part`).
 unfoldable pub send : View → Decision
 send s =
     let t = transfer (s .phase) in
-    let w = cond (fresh t) (s .queues .sdo .first) (t .part) in
+    let w = cond (firstOfWord t) (s .queues .sdo .first) (t .part) in
     s .control .held ⇒ number.heldInReset
     ∣ idle (s .phase) ⇒ number.noTransfer
     ∣ unattached (s .phase) ⇒ number.notAttached
     ∣ not (writing (s .phase)) ⇒ number.notThisKind
     ∣ reached t ⇒ number.lengthReached
-    ∣ fresh t && empty (s .queues .sdo) ⇒ number.sdoEmpty
-    ∣ does (unchanged s withValue w / 2 ^ 24 % 256 withPhase Writing (advanced t (w % 2 ^ 24 * 2 ^ 8)) withQueues each keep keep (cond (fresh t) (take 1) keep) keep keep)
+    ∣ firstOfWord t && empty (s .queues .sdo) ⇒ number.sdoEmpty
+    ∣ does (unchanged s withValue w / 2 ^ 24 % 256 withPhase Writing (advanced t (w % 2 ^ 24 * 2 ^ 8)) withQueues each keep keep (cond (firstOfWord t) (take 1) keep) keep keep)
 
 -- `receive.tests`, `receive.byte`. The byte goes behind those gathered, from the top (`payload.order`); a word that it fills goes to SDI.
 unfoldable pub receive : View → ℕ → Decision
@@ -92,8 +92,8 @@ receive s byte =
     ∣ unattached (s .phase) ⇒ number.notAttached
     ∣ not (reading (s .phase)) ⇒ number.notThisKind
     ∣ reached t ⇒ number.lengthReached
-    ∣ fills t && full (s .queues .sdi) ⇒ number.noRoom
-    ∣ does (unchanged s withPhase Reading (advanced t (cond (fills t) 0 w)) withQueues each keep keep keep (cond (fills t) (push w) keep) keep)
+    ∣ lastOfWord t && full (s .queues .sdi) ⇒ number.noRoom
+    ∣ does (unchanged s withPhase Reading (advanced t (cond (lastOfWord t) 0 w)) withQueues each keep keep keep (cond (lastOfWord t) (push w) keep) keep)
 
 -- ── Finish ────────────────────────────────────────────────────────────────────────────────────────────────────
 -- the codes that end an ENTDAA: 0 unless a request is open, and 4 before the first request (`finish.codes`)

@@ -17,8 +17,8 @@ abbrev pub sizes : ℕ → ℕ → ℕ → ℕ → ℕ → Sizes
 sizes a b c d e = record { cmd = a; cmdr = b; sdo = c; sdi = d; ibi = e }
 
 -- the bank of a session (`session.bank`), with a store of zeros and no output
-abbrev pub session : Controller
-session = record { bank = setUp (sizes 4 4 4 4 4) (sizes 1 3 1 3 3) 0 .bank; store = replicate 20 0; output = [] }
+abbrev pub workedSession : Controller
+workedSession = record { bank = setUp (sizes 4 4 4 4 4) (sizes 1 3 1 3 3) 0 .bank; store = replicate 20 0; output = [] }
 
 -- a call, the value and the number of its answer
 infix 70 _⇝_·_
@@ -39,7 +39,7 @@ cs then ls = record { before = cs; lines = ls }
 
 unfoldable pub allHold : List Case → Bool
 allHold [] = true
-allHold (k ∷ ks) = answered (final rings session (lending [] (k .before))) (k .lines) && allHold ks
+allHold (k ∷ ks) = answered (final rings workedSession (lending [] (k .before))) (k .lines) && allHold ks
 
 abbrev pub release : Call
 release = Write 0x040 0
@@ -63,8 +63,8 @@ unfoldable pub thirdByte : Case
 thirdByte = release ∷ device8 ∷ Write 0xdc 0xa5c30000 ∷ Write 0xd4 0x210 ∷ Start ∷ Send ∷ Send ∷ [] then Send ⇝ 0 · 11 ∷ Finish 0 ⇝ 0x200 · 0 ∷ []
 
 -- the sources, the status and the room of CMD right after a release: `source.read`, `status.read`, `room.read`
-unfoldable pub released : Case
-released = release ∷ [] then Read 0x088 ⇝ 0x05 · 0 ∷ Read 0x0e8 ⇝ 0x07 · 0 ∷ Read 0x0c0 ⇝ 4 · 0 ∷ []
+unfoldable pub releasedCase : Case
+releasedCase = release ∷ [] then Read 0x088 ⇝ 0x05 · 0 ∷ Read 0x0e8 ⇝ 0x07 · 0 ∷ Read 0x0c0 ⇝ 4 · 0 ∷ []
 
 -- four words fill CMD, which has no room then and drops the next: `room.read`, `cmd.push`
 unfoldable pub fifthWrite : Case
@@ -98,7 +98,7 @@ receipt257 =
 
 -- the finish of the worked session is one of the cases marked P too
 unfoldable pub table : List Case
-table = worked ∷ thirdByte ∷ released ∷ fifthWrite ∷ cccAlone ∷ addresses ∷ fiveBytes ∷ interrupt8 ∷ receipt257 ∷ []
+table = worked ∷ thirdByte ∷ releasedCase ∷ fifthWrite ∷ cccAlone ∷ addresses ∷ fiveBytes ∷ interrupt8 ∷ receipt257 ∷ []
 
 unfoldable pub Hold : Type 0
 Hold = allHold table ≡ true

@@ -16,21 +16,21 @@ use Rattle.bank.specs.Formed.{wellFormed}
 use Rattle.registers.specs.Map.{registerAt}
 use Rattle.model.specs.declared.Call.{Call}
 use Rattle.model.specs.declared.Call.the-variants.{Read, Write, Finish}
-use Rattle.bank.specs.Bits.{bit, bits, weigh}
+use Rattle.bank.specs.Bits.{bit, bits, wordIf}
 use Rattle.model.specs.View.{View, Queue, Cmdr, Sdo, Ibi, of, full, last}
 use Rattle.model.specs.Commands.{receiptWord}
 use Rattle.model.specs.Calls.{padded}
 use Rattle.model.specs.Registers.{Cell, scratch, mask, ops, ibiConfig, devChar, offloadCmd, offloadSdo, Row, absent, shows, holds, pushes, takes, enables, acknowledges, burstHolds, row}
 use Rattle.model.specs.Engine.{step, Lent, lending, final}
 use Rattle.model.specs.Rings.{Controller, areas, wordsIn, viewRings, rings}
-use Rattle.model.specs.Laws.{fresh, same}
+use Rattle.model.specs.Laws.{freshController, sameQueue}
 
 -- ── What is written is read back, by the register's named bits ────────────────────────────────────────────────
 -- what a read shows of the word v that was written: by `map.bits`, `map.write-only`, `ops.keeps`, `dev-char.read`
 abbrev pub shownOf : Cell → ℕ → Controller → ℕ
 shownOf scratch v l = v
 shownOf mask v l = v % 2 ^ 8
-shownOf ops v l = weigh (idle (l .bank .state .phase)) 128 + v % 2 ^ 7
+shownOf ops v l = wordIf (idle (l .bank .state .phase)) 128 + v % 2 ^ 7
 shownOf ibiConfig v l = 0
 shownOf devChar v l = bits 15 9 v * 2 ^ 9 + cond (bit 8 v) (bits 3 1 v) (getD (l .bank .flags) (bits 15 9 v) 0) * 2
 shownOf (offloadCmd i) v l = v
@@ -68,7 +68,7 @@ pub record RoomIs (l : Controller) (caps : Sizes) : Type 0 where
 
 unfoldable pub RoomAndWords : Type 0
 RoomAndWords =
-    (caps marks : Sizes) (id : ℕ) (store : List ℕ) (cs : List Lent) → setUp caps marks id .answer .number ≡ 0 → length store ≡ total (setUp caps marks id .bank .state .caps) → RoomIs (final rings (fresh caps marks id store) cs) caps
+    (caps marks : Sizes) (id : ℕ) (store : List ℕ) (cs : List Lent) → setUp caps marks id .answer .number ≡ 0 → length store ≡ total (setUp caps marks id .bank .state .caps) → RoomIs (final rings (freshController caps marks id store) cs) caps
 
 -- ── What a read changes ───────────────────────────────────────────────────────────────────────────────────────
 abbrev pub takesWord : Row → Bool
@@ -90,17 +90,17 @@ pub record ControlAfter (q : Queue) (emptied : Bool) (c d : Control) : Type 0 wh
   pub held : d .held ≡ c .held
   pub sync : d .sync ≡ c .sync
   pub ibisync : d .ibisync ≡ c .ibisync
-  pub cmdrpending : d .cmdrpending ≡ cond (same Cmdr q && emptied) false (c .cmdrpending)
-  pub ibipending : d .ibipending ≡ cond (same Ibi q && emptied) false (c .ibipending)
+  pub cmdrpending : d .cmdrpending ≡ cond (sameQueue Cmdr q && emptied) false (c .cmdrpending)
+  pub ibipending : d .ibipending ≡ cond (sameQueue Ibi q && emptied) false (c .ibipending)
   pub daapending : d .daapending ≡ c .daapending
   pub burst : d .burst ≡ c .burst
 
-abbrev pub wordsOf : Queue → Controller → List ℕ
-wordsOf q l = wordsIn (of q (areas (queuesIn (l .bank)))) (l .store)
+abbrev pub heldWords : Queue → Controller → List ℕ
+heldWords q l = wordsIn (of q (areas (queuesIn (l .bank)))) (l .store)
 
 pub record ReadTook (l m : Controller) (value : ℕ) (q : Queue) : Type 0 where
-  pub first : value ≡ getD (wordsOf q l) 0 0
-  pub words : wordsOf q m ≡ drop 1 (wordsOf q l)
+  pub first : value ≡ getD (heldWords q l) 0 0
+  pub words : heldWords q m ≡ drop 1 (heldWords q l)
   pub store : m .store ≡ l .store
   pub output : m .output ≡ l .output
   pub regs : m .bank .state .regs ≡ l .bank .state .regs
@@ -113,14 +113,14 @@ pub record ReadTook (l m : Controller) (value : ℕ) (q : Queue) : Type 0 where
 -- SDO is excluded: no register takes from it
 unfoldable pub ReadTakesOne : Type 0
 ReadTakesOne =
-    (l : Controller) (o : ℕ) (q : Queue) → row (registerAt o) ≡ takes q → same Sdo q ≡ false → step rings l (Read o) .answer .number ≡ 0 → ReadTook l (step rings l (Read o) .next) (step rings l (Read o) .answer .value) q
+    (l : Controller) (o : ℕ) (q : Queue) → row (registerAt o) ≡ takes q → sameQueue Sdo q ≡ false → step rings l (Read o) .answer .number ≡ 0 → ReadTook l (step rings l (Read o) .next) (step rings l (Read o) .answer .value) q
 
 -- ── Reset and release: `enable.reset`, `enable.release`, `enable.keeps` ───────────────────────────────────────
 -- after a release: no transfer, syncs and pending bits 0, all queues empty, whatever was before
 pub record Clean (l : Controller) : Type 0 where
   pub control : l .bank .state .control ≡ cleared false
   pub phase : idle (l .bank .state .phase) ≡ true
-  pub words : (k : Queue) → wordsOf k l ≡ []
+  pub words : (k : Queue) → heldWords k l ≡ []
 
 -- both writes to ENABLE are taken, in every state
 unfoldable pub ReleasedClean : Type 0
@@ -146,11 +146,11 @@ abbrev pub reads : List ℕ → List Call
 reads [] = []
 reads (o ∷ os) = Read o ∷ reads os
 
-abbrev pub noRoom : View → Bool
-noRoom s = full (s .queues .cmdr) || (padded (s .phase) && full (s .queues .sdi))
+abbrev pub finishLacksRoom : View → Bool
+finishLacksRoom s = full (s .queues .cmdr) || (padded (s .phase) && full (s .queues .sdi))
 
 unfoldable pub RefusedFinishAgain : Type 0
 RefusedFinishAgain =
     (l : Controller) (code : ℕ) (os : List ℕ) → bursting (l .bank .state .control) ≡ false → step rings l (Finish code) .answer .number ≡ number.noRoom
     → let m = final rings (step rings l (Finish code) .next) (lending (l .output) (reads os)) in
-    step rings m (Finish code) .answer ≡ cond (noRoom (viewRings m)) (record { value = 0; number = number.noRoom }) (record { value = receiptWord code (transfer (l .bank .state .phase) .moved .0) (l .bank .state .control .sync); number = 0 })
+    step rings m (Finish code) .answer ≡ cond (finishLacksRoom (viewRings m)) (record { value = 0; number = number.noRoom }) (record { value = receiptWord code (transfer (l .bank .state .phase) .moved .0) (l .bank .state .control .sync); number = 0 })

@@ -21,8 +21,8 @@ use Rattle.model.specs.Rings.{Controller, areas, wordsIn, viewRings, rin
 use Rattle.model.specs.Lists.{ListQueue, Lists, lists}
 
 -- the ring engine right after a set-up, with any store
-abbrev pub fresh : Sizes → Sizes → ℕ → List ℕ → Controller
-fresh caps marks id store = record { bank = setUp caps marks id .bank; store = store; output = [] }
+abbrev pub freshController : Sizes → Sizes → ℕ → List ℕ → Controller
+freshController caps marks id store = record { bank = setUp caps marks id .bank; store = store; output = [] }
 
 -- the list engine after the same set-up: every queue is an empty list
 abbrev pub emptyQueue : ℕ → ListQueue
@@ -30,14 +30,14 @@ emptyQueue cap = record { cap = cap; words = [] }
 
 abbrev pub freshLists : Sizes → Sizes → ℕ → Lists
 freshLists c m id =
-    let v = viewRings (fresh c m id []) in
+    let v = viewRings (freshController c m id []) in
     record { regs = v .regs; control = v .control; phase = v .phase; tables = v .tables; queues = each (emptyQueue (c .cmd)) (emptyQueue (c .cmdr)) (emptyQueue (c .sdo)) (emptyQueue (c .sdi)) (emptyQueue (c .ibi)) }
 
 -- `queue.order`: from the same set-up answered 0, with a store of the right length and any contents, both engines give equal answers along
 -- every list of calls, and each ring then holds the words of its list.
 pub record Agreement (caps marks : Sizes) (id : ℕ) (store : List ℕ) (cs : List Lent) : Type 0 where
-  pub sameAnswers : answers rings (fresh caps marks id store) cs ≡ answers lists (freshLists caps marks id) cs
-  pub sameWords : (k : Queue) → (let l = final rings (fresh caps marks id store) cs in wordsIn (of k (areas (queuesIn (l .bank)))) (l .store) ≡ of k (final lists (freshLists caps marks id) cs .queues) .words)
+  pub sameAnswers : answers rings (freshController caps marks id store) cs ≡ answers lists (freshLists caps marks id) cs
+  pub sameWords : (k : Queue) → (let l = final rings (freshController caps marks id store) cs in wordsIn (of k (areas (queuesIn (l .bank)))) (l .store) ≡ of k (final lists (freshLists caps marks id) cs .queues) .words)
 
 unfoldable pub EnginesAgree : Type 0
 EnginesAgree =
@@ -45,16 +45,16 @@ EnginesAgree =
 
 -- `answer.bank`: with a bank that is not well formed every call is 21; else with a store of any other length every call is 22. Nothing
 -- changes.
-abbrev pub refused : Controller → ℕ → Step Controller
-refused l n = record { answer = record { value = 0; number = n }; next = l }
+abbrev pub refusedStep : Controller → ℕ → Step Controller
+refusedStep l n = record { answer = record { value = 0; number = n }; next = l }
 
 unfoldable pub IllFormed : Type 0
-IllFormed = (l : Controller) (c : Call) → wellFormed (l .bank) ≡ false → step rings l c ≡ refused l number.notWellFormed
+IllFormed = (l : Controller) (c : Call) → wellFormed (l .bank) ≡ false → step rings l c ≡ refusedStep l number.notWellFormed
 
 unfoldable pub WrongLength : Type 0
 WrongLength =
     (l : Controller) (c : Call) → wellFormed (l .bank) ≡ true → (length (l .store) ≡ total (l .bank .state .caps) → ⊥)
-    → step rings l c ≡ refused l number.storeLength
+    → step rings l c ≡ refusedStep l number.storeLength
 
 -- `answer.refusal`: any number but 0 and 19 comes with the value 0, and bank, store and output are as before
 unfoldable pub RefusalChangesNothing : Type 0
@@ -98,19 +98,19 @@ AccessesLeaveOutput =
     → let r = step rings l c in step rings (rings .lend o l) c ≡ record { answer = r .answer; next = rings .lend o (r .next) }
 
 -- ── Which queues a call names ─────────────────────────────────────────────────────────────────────────────────
-abbrev pub same : Queue → Queue → Bool
-same Cmd k = of k (each true false false false false)
-same Cmdr k = of k (each false true false false false)
-same Sdo k = of k (each false false true false false)
-same Sdi k = of k (each false false false true false)
-same Ibi k = of k (each false false false false true)
+abbrev pub sameQueue : Queue → Queue → Bool
+sameQueue Cmd k = of k (each true false false false false)
+sameQueue Cmdr k = of k (each false true false false false)
+sameQueue Sdo k = of k (each false false true false false)
+sameQueue Sdi k = of k (each false false false true false)
+sameQueue Ibi k = of k (each false false false false true)
 
 abbrev pub readNames : Row → Queue → Bool
 readNames absent k = false
 readNames (shows f) k = false
 readNames (holds c) k = false
 readNames (pushes q) k = false
-readNames (takes q) k = same q k
+readNames (takes q) k = sameQueue q k
 readNames enables k = false
 readNames acknowledges k = false
 
@@ -119,7 +119,7 @@ abbrev pub writeNames : Row → ℕ → Queue → Bool
 writeNames absent v k = false
 writeNames (shows f) v k = false
 writeNames (holds c) v k = false
-writeNames (pushes q) v k = same q k
+writeNames (pushes q) v k = sameQueue q k
 writeNames (takes q) v k = false
 writeNames enables v k = bit 0 v
 writeNames acknowledges v k = false
@@ -127,13 +127,13 @@ writeNames acknowledges v k = false
 abbrev pub names : Call → Queue → Bool
 names (Read o) k = readNames (row (registerAt o)) k
 names (Write o v) k = writeNames (row (registerAt o)) v k
-names Start k = same Cmd k
-names Send k = same Sdo k
-names (Receive byte) k = same Sdi k
-names (Finish code) k = same Cmdr k || same Sdi k
-names (Interrupt a byte) k = same Ibi k
-names (Request v w) k = same Sdi k
-names Take k = same Sdo k
+names Start k = sameQueue Cmd k
+names Send k = sameQueue Sdo k
+names (Receive byte) k = sameQueue Sdi k
+names (Finish code) k = sameQueue Cmdr k || sameQueue Sdi k
+names (Interrupt a byte) k = sameQueue Ibi k
+names (Request v w) k = sameQueue Sdi k
+names Take k = sameQueue Sdo k
 names Trigger k = false
 
 -- `queue.apart`: head, level and words of a queue that a call does not name stay, and so does its place in the store.

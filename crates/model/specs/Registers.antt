@@ -12,7 +12,7 @@ use Rattle.bank.specs.Bursts.{bursting}
 use Rattle.bank.specs.SetUp.{cleared}
 use Rattle.registers.specs.declared.Register.{Register}
 use Rattle.registers.specs.declared.Register.the-variants.{Version, Id, Scratch, Enable, IrqMask, IrqPending, IrqSource, CmdRoom, CmdrLevel, SdoRoom, SdiLevel, IbiLevel, CmdFifo, CmdrFifo, SdoFifo, SdiFifo, IbiFifo, FifoStatus, Ops, IbiConfig, DevChar, OffloadCmd, OffloadSdo, Unmapped}
-use Rattle.bank.specs.Bits.{bit, bits, weigh}
+use Rattle.bank.specs.Bits.{bit, bits, wordIf}
 use Rattle.model.specs.View.{Queue, Cmd, Cmdr, Sdo, Sdi, Ibi, each, of, room, empty, full, last, Tables, View}
 use Rattle.model.specs.Decision.{clear, take, push, only, Effect, unchanged, _withValue_, _withRegs_, _withControl_, _withPhase_, _withTables_, _withQueues_, Decision, does, _⇒_∣_}
 
@@ -41,18 +41,18 @@ sources m s =
     let q = s .queues in
     let w = s .regs .marks in
     let c = s .control in
-    weigh (ltb (q .cmd .level) (w .cmd .0) && bit 0 m) 1
-    + weigh (ltb (w .cmdr .0) (q .cmdr .level) && bit 1 m) 2
-    + weigh (ltb (q .sdo .level) (w .sdo .0) && bit 2 m) 4
-    + weigh (ltb (w .sdi .0) (q .sdi .level) && bit 3 m) 8
-    + weigh (ltb (w .ibi .0) (q .ibi .level) && bit 4 m) 16
-    + weigh (c .cmdrpending && bit 5 m) 32
-    + weigh (c .ibipending && bit 6 m) 64
-    + weigh (c .daapending && bit 7 m) 128
+    wordIf (ltb (q .cmd .level) (w .cmd .0) && bit 0 m) 1
+    + wordIf (ltb (w .cmdr .0) (q .cmdr .level) && bit 1 m) 2
+    + wordIf (ltb (q .sdo .level) (w .sdo .0) && bit 2 m) 4
+    + wordIf (ltb (w .sdi .0) (q .sdi .level) && bit 3 m) 8
+    + wordIf (ltb (w .ibi .0) (q .ibi .level) && bit 4 m) 16
+    + wordIf (c .cmdrpending && bit 5 m) 32
+    + wordIf (c .ibipending && bit 6 m) 64
+    + wordIf (c .daapending && bit 7 m) 128
 
 -- `status.read`: a bit for each queue that the driver reads, set where it is empty
 abbrev pub status : View → ℕ
-status s = weigh (empty (s .queues .cmdr)) 1 + weigh (empty (s .queues .ibi)) 2 + weigh (empty (s .queues .sdi)) 4
+status s = wordIf (empty (s .queues .cmdr)) 1 + wordIf (empty (s .queues .ibi)) 2 + wordIf (empty (s .queues .sdi)) 4
 
 -- the row of each register. Those that show a number: `version.value`, `id.value`, `source.read`, `room.read`, `level.read`, `status.read`.
 abbrev pub row : Register → Row
@@ -87,7 +87,7 @@ row Unmapped = absent
 abbrev pub shown : Cell → View → ℕ
 shown scratch s = s .regs .scratch
 shown mask s = s .regs .mask
-shown ops s = weigh (idle (s .phase)) 128 + s .regs .ops
+shown ops s = wordIf (idle (s .phase)) 128 + s .regs .ops
 shown ibiConfig s = 0
 shown devChar s = s .regs .selected * 2 ^ 9 + device (s .regs .selected) s * 2
 shown (offloadCmd i) s = getD (s .tables .commands) i 0
@@ -165,7 +165,7 @@ read (pushes q) s = does (unchanged s)
 read (takes q) s =
     let v = of q (s .queues) in
     empty v ⇒ number.empty ∣ does (unchanged s withValue v .first withControl clears q (last v) (s .control) withQueues only q (take 1))
-read enables s = does (unchanged s withValue weigh (s .control .held) 1)
+read enables s = does (unchanged s withValue wordIf (s .control .held) 1)
 read acknowledges s = does (unchanged s withValue sources (s .regs .mask) s)
 
 -- A write, by the register's row (`access.order`). Without a register it is 4, to one that is only read 2 (`map.read-only`), to one that an

@@ -5,5 +5,5 @@ use mathlib.Core.List.{List, [], _∷_, _++_}
 use Rattle.io.specs.Digits.{digits, Fewest}
 
 -- a line: words, a number in decimal with no digit too many, and a newline
-abbrev pub Told : List ℕ → ℕ → List ℕ → Type 0
-Told words n text = (k : ℕ) × Fewest 10 1 n k × (text ≡ (words ++ digits 10 k n) ++ (0x0a ∷ []))
+abbrev pub Noticed : List ℕ → ℕ → List ℕ → Type 0
+Noticed words n text = (k : ℕ) × Fewest 10 1 n k × (text ≡ (words ++ digits 10 k n) ++ (0x0a ∷ []))

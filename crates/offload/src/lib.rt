@@ -44,7 +44,7 @@ pub fn event(
     requires { ⌜ (bursting (st .control) ≡ true) × (openOk (st .control) (st .regs) (st .phase) (now commands) ≡ true) ⌝ }
     ensures { λ e. ⌜ ((o : List ℕ) (f : Fronts) → length o ≡ len → isAccess call ≡ false → misfit call ≡ false → (let t = tables (now (flags .entry)) (now (commands .entry)) (now (payloads .entry)) o in effectOf e t ≡ verdict (λ v. decide v call) (seen st t f))) ⌝ }
 {
-    let lacks = trigger::is_lacking(st.regs, commands, len);
+    let lacks = trigger::is_output_short(st.regs, commands, len);
     match call {
         Call::Read(_) => effect::refuse(st, number::NO_ROOM),
         Call::Write(_, _) => effect::refuse(st, number::NO_ROOM),

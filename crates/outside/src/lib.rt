@@ -42,7 +42,7 @@ fn read_at(
 fn start(st: State, w: u32, x: u32, flags: &[u8; 128]) -> Effect
     ensures { λ e. ⌜ ((c p o : List ℕ) (f : Fronts) → w ≡ f .cmd .first → x ≡ f .cmd .second → (let t = tables (now (flags .entry)) c p o in effectOf e t ≡ verdict start (seen st t f))) ⌝ }
 {
-    let at = (w / 2 % 128) as usize;
+    let at = (w / 2 % 0x80) as usize;
     start::start(st, w, x, flags[at])
 }
 

@@ -39,11 +39,11 @@ pub fn send(st: State, word: u32) -> Effect
     let t = phases::transfer_of(p);
     let fresh = t.moved.0 % 4 == 0;
     let w = bank::select(fresh, word, t.part);
-    let next = payload_bytes::advance(t, w % 0x1000000 * 256);
+    let next = payload_bytes::advance(t, w % 0x1000000 * 0x100);
     let g = st.regs;
     let c = st.control;
     let o = effect::on_sdo(fresh, Op::Take(1));
-    effect::done(st, w / 0x1000000 % 256, 0, g, c, Phase::Writing(next), o)
+    effect::done(st, w / 0x1000000 % 0x100, 0, g, c, Phase::Writing(next), o)
 }
 
 // The number of a receive, 0 where none of its tests holds (`receive.tests`).

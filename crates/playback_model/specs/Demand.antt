@@ -10,7 +10,7 @@ use Rattle.bank.specs.Queues.{queuesIn}
 use Rattle.bank.specs.SetUp.{setUp}
 use Rattle.model.specs.Engine.{lending}
 use Rattle.model.specs.Rings.{Controller, areas, wordsIn, rings}
-use Rattle.model.specs.Laws.{fresh}
+use Rattle.model.specs.Laws.{freshController}
 use Rattle.model.specs.Demand.{Tally, tally, directPhase, Demand3}
 use Rattle.playback_model.specs.Replay.{replayOf}
 use Rattle.playback_model.specs.Done.{doneIn}
@@ -27,5 +27,5 @@ KeepsDemand t l =
 unfoldable pub ReplayKeepsDemand : Type 0
 ReplayKeepsDemand =
     (file : List ℕ) (i limit : ℕ) (caps marks : Sizes) (id : ℕ) (store : List ℕ) (t : Tally) → setUp caps marks id .answer .number ≡ 0
-    → let l = fresh caps marks id store in
+    → let l = freshController caps marks id store in
     tally rings none l (lending [] (doneIn file i limit)) ≡ some t → KeepsDemand t (replayOf file i limit l .left)

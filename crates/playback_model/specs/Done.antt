@@ -12,16 +12,16 @@ use Rattle.model.specs.declared.Call.{Call}
 use Rattle.model.specs.Rings.{Controller}
 use Rattle.letters.specs.declared.Parsed.{Parsed}
 use Rattle.trace_model.specs.Format.{lookNumber, section}
-use Rattle.record_model.specs.Record.{within}
+use Rattle.record_model.specs.Record.{wholeRecords}
 use Rattle.record_model.specs.Writer.{namedFrom}
 use Rattle.record_model.specs.Done.{callsBefore, anyWrong}
-use Rattle.playback_model.specs.declared.Told.{Told}
+use Rattle.playback_model.specs.declared.Report.{Report}
 use Rattle.playback_model.specs.Replay.{replayOf}
 use Rattle.playback_model.specs.Laws.{made}
 
 -- what the records name that a replay may look at: at most `limit` of them, and none of a file that is refused, whose section is empty
 unfoldable pub wanted : List ℕ → ℕ → ℕ → List Parsed
-wanted file i limit = let bytes = section file i in namedFrom (within limit bytes) bytes 0
+wanted file i limit = let bytes = section file i in namedFrom (wholeRecords limit bytes) bytes 0
 
 -- the calls that it makes
 abbrev pub doneIn : List ℕ → ℕ → ℕ → List Call
@@ -36,7 +36,7 @@ unfoldable pub EveryReplay : Type 0
 EveryReplay = (file : List ℕ) (i limit : ℕ) (l : Controller) → replayOf file i limit l ≡ made (numberIn file i limit) (doneIn file i limit) l
 
 -- what is told where every record that is done is answered 21
-abbrev pub all21 : List ℕ → ℕ → ℕ → Told
+abbrev pub all21 : List ℕ → ℕ → ℕ → Report
 all21 file i limit =
     let n = length (doneIn file i limit) in
     record { number = numberIn file i limit; count = n; answer = record { value = 0; number = cond (eqb n 0) 0 number.notWellFormed } }

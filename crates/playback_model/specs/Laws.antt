@@ -18,7 +18,7 @@ use Rattle.model.specs.Rings.{Controller, rings}
 use Rattle.answer.specs.Given.{controller}
 use Rattle.letters.specs.declared.Parsed.the-variants.{Named, Skipped}
 use Rattle.trace_model.specs.Format.{lookNumber}
-use Rattle.record_model.specs.Record.{recordAt, within}
+use Rattle.record_model.specs.Record.{recordAt, wholeRecords}
 use Rattle.record_model.specs.Writer.{traceOf, namedFrom, sectionOf, everyWritable}
 use Rattle.playback_model.specs.Replay.{Replay, played, replayOf}
 
@@ -42,12 +42,12 @@ made number ks l =
 
 -- `replay.calls`: where the first records name the calls ks, and the limit asks for no more, a replay makes these
 unfoldable pub OneByOne : Type 0
-OneByOne = (ks : List Call) (bytes : List ℕ) (limit : ℕ) (l : Controller) → namedFrom (length ks) bytes 0 ≡ map Named ks → within limit bytes ≤ length ks
-    → played limit bytes l ≡ made 0 (take (within limit bytes) ks) l
+OneByOne = (ks : List Call) (bytes : List ℕ) (limit : ℕ) (l : Controller) → namedFrom (length ks) bytes 0 ≡ map Named ks → wholeRecords limit bytes ≤ length ks
+    → played limit bytes l ≡ made 0 (take (wholeRecords limit bytes) ks) l
 
 -- `replay.calls`: where the record behind these is wrong, and the limit asks for it, the number is 27
 unfoldable pub StopsAtWrong : Type 0
-StopsAtWrong = (ks : List Call) (bytes : List ℕ) (limit : ℕ) (l : Controller) → namedFrom (length ks) bytes 0 ≡ map Named ks → recordAt bytes (length ks) ≡ Skipped → length ks < within limit bytes
+StopsAtWrong = (ks : List Call) (bytes : List ℕ) (limit : ℕ) (l : Controller) → namedFrom (length ks) bytes 0 ≡ map Named ks → recordAt bytes (length ks) ≡ Skipped → length ks < wholeRecords limit bytes
     → played limit bytes l ≡ made number.wrongRecord ks l
 
 -- `replay.tells`, `answer.refusal`: at 24, 25 and 26 no record is done, and all stays as it was

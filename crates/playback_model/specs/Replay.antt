@@ -9,20 +9,20 @@ use Rattle.model.specs.declared.Call.{Call}
 use Rattle.model.specs.Engine.{step}
 use Rattle.model.specs.Rings.{Controller, rings}
 use Rattle.trace_model.specs.Format.{lookNumber, section}
-use Rattle.record_model.specs.Record.{each, within}
-use Rattle.playback_model.specs.declared.Told.{Told}
+use Rattle.record_model.specs.Record.{eachRecord, wholeRecords}
+use Rattle.playback_model.specs.declared.Report.{Report}
 
 -- what a replay tells, and what its calls left
 pub record Replay : Type 0 where
-  pub told : Told
+  pub told : Report
   pub left : Controller
 
 abbrev pub telling : ℕ → ℕ → Answer → Controller → Replay
 telling number count a l = record { told = record { number = number; count = count; answer = a }; left = l }
 
 -- `replay.tells`: before the first record the last answer is 0 and 0
-abbrev pub begun : ℕ → Controller → Replay
-begun number l = telling number 0 (record { value = 0; number = 0 }) l
+abbrev pub replayBegun : ℕ → Controller → Replay
+replayBegun number l = telling number 0 (record { value = 0; number = 0 }) l
 
 -- `replay.calls`: a record's call is made on what the one before it left; whatever its answer, it counts as done and the next follows
 abbrev pub did : Call → Replay → Replay
@@ -34,8 +34,8 @@ wrong r = telling number.wrongRecord (r .told .count) (r .told .answer) (r .left
 
 -- the first records in some bytes, at most `limit` of them
 abbrev pub played : ℕ → List ℕ → Controller → Replay
-played limit bytes l = each did wrong (within limit bytes) bytes 0 (begun 0 l)
+played limit bytes l = eachRecord did wrong (wholeRecords limit bytes) bytes 0 (replayBegun 0 l)
 
 -- section i of a file, at most `limit` of its records; 24, 25 and 26 come first (`trace.refused`), and then no record is done
 abbrev pub replayOf : List ℕ → ℕ → ℕ → Controller → Replay
-replayOf file i limit l = cond (eqb (lookNumber file i) 0) (played limit (section file i) l) (begun (lookNumber file i) l)
+replayOf file i limit l = cond (eqb (lookNumber file i) 0) (played limit (section file i) l) (replayBegun (lookNumber file i) l)

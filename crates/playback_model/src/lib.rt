@@ -3,7 +3,7 @@
 use bank::Answer;
 
 // What a replay tells (`replay.tells`): its number, how many records it did, and the answer of the last of these.
-pub struct Told {
+pub struct Report {
     pub number: u32,
     pub count: usize,
     pub answer: Answer,

@@ -31,7 +31,7 @@ pub fn read(
         Register::Version => show(st, 0x00000100),
         Register::Id => show(st, read_rows::wide(g.id)),
         Register::Scratch => show(st, g.scratch),
-        Register::Enable => show(st, read_rows::weigh(st.control.held, 1)),
+        Register::Enable => show(st, read_rows::word_if(st.control.held, 1)),
         Register::IrqMask => show(st, read_rows::wide(g.mask)),
         Register::IrqPending => show(st, read_rows::sources_in(st, g.mask)),
         Register::IrqSource => show(st, read_rows::sources_in(st, 0xff)),

@@ -6,7 +6,7 @@ ghost use Prim.Native.Nat.{_+_, _*_, _^_, _<_, _≤_};
 ghost use lib.Dec.{eqb};
 ghost use lib.ListN.{getD};
 ghost use Rattle.registers.specs.declared.Register.the-variants.{CmdrFifo, SdiFifo, IbiFifo};
-ghost use Rattle.bank.specs.Bits.{bit, weigh};
+ghost use Rattle.bank.specs.Bits.{bit, wordIf};
 ghost use Rattle.model.specs.View.{Tables};
 ghost use Rattle.model.specs.Decision.{unchanged, _withValue_};
 ghost use Rattle.model.specs.Registers.{sources, row, read};
@@ -17,24 +17,24 @@ use effect::Effect;
 use effect::Op;
 
 // A weight where a test holds, else 0.
-pub fn weigh(test: bool, w: u32) -> u32
-    ensures { λ r. ⌜ (r ≡ weigh test w) × (r ≤ w) ⌝ }
+pub fn word_if(test: bool, w: u32) -> u32
+    ensures { λ r. ⌜ (r ≡ wordIf test w) × (r ≤ w) ⌝ }
 {
     if test { w } else { 0 }
 }
 
 // The source bits that the mask has. Over plain bools: a proof about the sum need not look into a state.
 fn source_bits(m: u8, a: bool, b: bool, c: bool, d: bool, e: bool, f: bool, g: bool, h: bool) -> u32
-    ensures { λ r. ⌜ r ≡ weigh (a && bit 0 m) 1 + weigh (b && bit 1 m) 2 + weigh (c && bit 2 m) 4 + weigh (d && bit 3 m) 8 + weigh (e && bit 4 m) 16 + weigh (f && bit 5 m) 32 + weigh (g && bit 6 m) 64 + weigh (h && bit 7 m) 128 ⌝ }
+    ensures { λ r. ⌜ r ≡ wordIf (a && bit 0 m) 1 + wordIf (b && bit 1 m) 2 + wordIf (c && bit 2 m) 4 + wordIf (d && bit 3 m) 8 + wordIf (e && bit 4 m) 16 + wordIf (f && bit 5 m) 32 + wordIf (g && bit 6 m) 64 + wordIf (h && bit 7 m) 128 ⌝ }
 {
-    weigh(a & bank::byte_low_bit(m), 1)
-        + weigh(b & (m / 2 % 2 == 1), 2)
-        + weigh(c & (m / 4 % 2 == 1), 4)
-        + weigh(d & (m / 8 % 2 == 1), 8)
-        + weigh(e & (m / 16 % 2 == 1), 16)
-        + weigh(f & (m / 32 % 2 == 1), 32)
-        + weigh(g & (m / 64 % 2 == 1), 64)
-        + weigh(h & (m / 128 % 2 == 1), 128)
+    word_if(a & bank::byte_low_bit(m), 1)
+        + word_if(b & (m / 2 % 2 == 1), 2)
+        + word_if(c & (m / 4 % 2 == 1), 4)
+        + word_if(d & (m / 8 % 2 == 1), 8)
+        + word_if(e & (m / 16 % 2 == 1), 16)
+        + word_if(f & (m / 32 % 2 == 1), 32)
+        + word_if(g & (m / 0x40 % 2 == 1), 64)
+        + word_if(h & (m / 0x80 % 2 == 1), 128)
 }
 
 // The interrupt sources that the mask has: all for IRQ_SOURCE (`source.read`), those of IRQ_MASK for IRQ_PENDING
@@ -60,9 +60,9 @@ pub fn sources_in(st: State, m: u8) -> u32
 
 // FIFO_STATUS, by the levels (`status.read`).
 pub fn status_word(cmdr: u32, ibi: u32, sdi: u32) -> u32
-    ensures { λ r. ⌜ r ≡ weigh (eqb cmdr 0) 1 + weigh (eqb ibi 0) 2 + weigh (eqb sdi 0) 4 ⌝ }
+    ensures { λ r. ⌜ r ≡ wordIf (eqb cmdr 0) 1 + wordIf (eqb ibi 0) 2 + wordIf (eqb sdi 0) 4 ⌝ }
 {
-    weigh(cmdr == 0, 1) + weigh(ibi == 0, 2) + weigh(sdi == 0, 4)
+    word_if(cmdr == 0, 1) + word_if(ibi == 0, 2) + word_if(sdi == 0, 4)
 }
 
 // A byte as a word.
@@ -74,9 +74,9 @@ pub fn wide(x: u8) -> u32
 
 // OPS, with its bit 7 (`ops.keeps`).
 pub fn ops_word(idle: bool, ops: u8) -> u32
-    ensures { λ r. ⌜ r ≡ weigh idle 128 + ops ⌝ }
+    ensures { λ r. ⌜ r ≡ wordIf idle 128 + ops ⌝ }
 {
-    weigh(idle, 128) + wide(ops)
+    word_if(idle, 128) + wide(ops)
 }
 
 // The flags of a device, or 0 past the last address.
@@ -94,7 +94,7 @@ pub fn flags_at(flags: &[u8], a: u8) -> u8
 pub fn device_word(selected: u8, f: u8) -> u32
     ensures { λ r. ⌜ r ≡ selected * 2 ^ 9 + f * 2 ⌝ }
 {
-    wide(selected) * 512 + wide(f) * 2
+    wide(selected) * 0x200 + wide(f) * 2
 }
 
 // A word of an offload memory, or 0 past its end.

@@ -11,7 +11,7 @@ use Rattle.model.specs.declared.Call.{Call}
 use Rattle.model.specs.declared.Call.the-variants.{Read, Write, Start, Send, Receive, Finish, Interrupt, Request, Take}
 use Rattle.letters.specs.declared.Parsed.{Parsed}
 use Rattle.letters.specs.declared.Parsed.the-variants.{Named, Skipped}
-use Rattle.letters.specs.Forms.{byte, unused, fields, forms, find, formOf}
+use Rattle.letters.specs.Forms.{byte, unused, fields, forms, formWith, formOf}
 use Rattle.little_endian.specs.Numbers.{twoAt, fourAt}
 use Rattle.record_model.specs.Record.{rec, namedIn, recordAt}
 use Rattle.record_model.proofs.Canonical.{right-true}
@@ -50,40 +50,40 @@ module _ (l z o v w : ℕ) (r : Parsed) where
 
   -- every offset fits, and every value
   pub is-W : o < 65536 → v < 4294967296 → Is 0x57 (eqb z 0 && eqb w 0) (Write (o % 65536) v)
-  unfolding forms find
+  unfolding forms formWith
   is-W h i = by-letter 0x57 (eqb z 0 && eqb w 0) (Write (o % 65536) v) (rw (lt-ltb _ _ h, lt-ltb _ _ i, mod-eq-of-lt h))
 
   pub is-R : o < 65536 → Is 0x52 (eqb z 0 && (eqb v 0 && eqb w 0)) (Read (o % 65536))
-  unfolding forms find
+  unfolding forms formWith
   is-R h = by-letter 0x52 (eqb z 0 && (eqb v 0 && eqb w 0)) (Read (o % 65536)) (rw (lt-ltb _ _ h, mod-eq-of-lt h))
 
   pub is-S : Is 0x53 bare Start
-  unfolding forms find
+  unfolding forms formWith
   is-S = by-letter 0x53 bare Start refl
 
   pub is-T : Is 0x54 bare Send
-  unfolding forms find
+  unfolding forms formWith
   is-T = by-letter 0x54 bare Send refl
 
   pub is-X : Is 0x58 one (Receive (v % 256))
-  unfolding forms find
+  unfolding forms formWith
   is-X = by-letter 0x58 one (Receive (v % 256)) (same-if one (Receive (v % 256)) (Receive v) (λ e. ap Receive (one-cut e)))
 
   pub is-F : Is 0x46 one (Finish (v % 256))
-  unfolding forms find
+  unfolding forms formWith
   is-F = by-letter 0x46 one (Finish (v % 256)) (same-if one (Finish (v % 256)) (Finish v) (λ e. ap Finish (one-cut e)))
 
   pub is-I : Is 0x49 two (Interrupt (v % 256) (w % 256))
-  unfolding forms find
+  unfolding forms formWith
   is-I = by-letter 0x49 two (Interrupt (v % 256) (w % 256)) (same-if two (Interrupt (v % 256) (w % 256)) (Interrupt v w) (λ e i. Interrupt (two-cut e .0 i) (two-cut e .1 i)))
 
   -- both words fit
   pub is-D : v < 4294967296 → w < 4294967296 → Is 0x44 (eqb z 0 && eqb o 0) (Request v w)
-  unfolding forms find
+  unfolding forms formWith
   is-D h i = by-letter 0x44 (eqb z 0 && eqb o 0) (Request v w) (rw (lt-ltb _ _ h, lt-ltb _ _ i, sym (and-right (eqb o 0))))
 
   pub is-A : Is 0x41 bare Take
-  unfolding forms find
+  unfolding forms formWith
   is-A = by-letter 0x41 bare Take refl
 
 -- the fields of record i, read one by one

@@ -5,7 +5,7 @@ ghost use Prim.Native.Nat.{_+_, _*_, _<_, _≤_};
 ghost use lib.ListN.{length};
 ghost use Rattle.letters.specs.declared.Parsed.the-variants.{Named, Skipped};
 ghost use Rattle.letters.specs.Forms.{formOf};
-ghost use Rattle.record_model.specs.Record.{rec, namedIn, recordAt, within};
+ghost use Rattle.record_model.specs.Record.{rec, namedIn, recordAt, wholeRecords};
 ghost use Rattle.record_model.specs.Writer.{recordBytes};
 use letters::Parsed;
 use model::Call;
@@ -88,7 +88,7 @@ pub fn bytes_of(letter: u8, offset: u32, v: u32, w: u32) -> [u8; 12]
 
 // How many whole records so many bytes have, up to a limit.
 pub fn whole(limit: usize, bytes: &[u8]) -> usize
-    ensures { λ n. ⌜ (n ≡ within limit (now (bytes .entry))) × (12 * n ≤ length (now (bytes .entry))) ⌝ }
+    ensures { λ n. ⌜ (n ≡ wholeRecords limit (now (bytes .entry))) × (12 * n ≤ length (now (bytes .entry))) ⌝ }
 {
     let n = bytes.len() / 12;
     if limit < n { limit } else { n }

@@ -11,7 +11,7 @@ use lib.ListN.{length, getD}
 use borrow.Author.Tests.{eqb-true, ltb-true}
 use Rattle.model.specs.declared.Call.{Call}
 use Rattle.letters.specs.declared.Parsed.the-variants.{Named, Skipped}
-use Rattle.letters.specs.Forms.{Fields, offsetDigits, Form, forms, find}
+use Rattle.letters.specs.Forms.{Fields, offsetDigits, Form, forms, formWith}
 use Rattle.trace_model.proofs.Table.{and-true}
 use Rattle.record_model.specs.Record.{Record, fieldsAt, fits, right, namedIn}
 use Rattle.record_model.specs.Writer.{bytesOf, recordOf, recordBytes, RightIsWritten}
@@ -106,10 +106,10 @@ module _ (r : Record) (k : Call) where
       ap recordOf (sym (z .1)) ∙ same (recordOf (called f r)) r (p r (l refl) (right-true (f .fields) r (z .0)))
   by-row false f o l p q e = q e
 
-  by-rows : (fs : List Form) → AllTold fs → namedIn (find (r .letter) fs) r ≡ Named k → recordOf k ≡ r
-  unfolding find
+  by-rows : (fs : List Form) → AllTold fs → namedIn (formWith (r .letter) fs) r ≡ Named k → recordOf k ≡ r
+  unfolding formWith
   by-rows [] a e = absurd (let z : _≡_ {A = ℕ} 0 1 = cc in omega arith)
-  by-rows (f ∷ fs) a e = by-row (eqb (r .letter) (f .letter)) f (find (r .letter) fs) (eqb-true _ _) (a .0) (by-rows fs (a .1)) e
+  by-rows (f ∷ fs) a e = by-row (eqb (r .letter) (f .letter)) f (formWith (r .letter) fs) (eqb-true _ _) (a .0) (by-rows fs (a .1)) e
 
 pub right-is-written : RightIsWritten
 unfolding RightIsWritten

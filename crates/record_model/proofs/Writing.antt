@@ -11,7 +11,7 @@ use borrow.Author.Tests.{lt-ltb, ltb-true}
 use Rattle.model.specs.declared.Call.{Call}
 use Rattle.model.specs.declared.Call.the-variants.{Read, Write, Start, Send, Receive, Finish, Interrupt, Request, Take, Trigger}
 use Rattle.letters.specs.declared.Parsed.the-variants.{Named}
-use Rattle.letters.specs.Forms.{forms, find, formOf}
+use Rattle.letters.specs.Forms.{forms, formWith, formOf}
 use Rattle.little_endian.specs.Numbers.{twoAt, fourAt}
 use Rattle.trace_model.proofs.Table.{and-true}
 use Rattle.record_model.specs.Record.{Record, fieldsAt, namedIn, recordAt}
@@ -76,7 +76,7 @@ holds Take e = omega arith
 holds Trigger e = absurd (false≢true e)
 
 pub call-named : (k : Call) → writable k ≡ true → namedIn (formOf (recordOf k .letter)) (recordOf k) ≡ Named k
-unfolding forms find
+unfolding forms formWith
 call-named (Read o) e = rw e
 call-named (Write o v) e = let h = both o 0x10000 v 0x100000000 e in rw (lt-ltb _ _ (h .0), lt-ltb _ _ (h .1))
 call-named Start e = refl

@@ -53,10 +53,10 @@ onward make stop (Named k) a rest = rest (make k a)
 onward make stop Skipped a rest = stop a
 
 -- n records, from record i on, one after another
-unfoldable pub each : {A : Type 0} → (Call → A → A) → (A → A) → ℕ → List ℕ → ℕ → A → A
-each make stop zero bytes i a = a
-each make stop (suc n) bytes i a = onward make stop (recordAt bytes i) a (each make stop n bytes (suc i))
+unfoldable pub eachRecord : {A : Type 0} → (Call → A → A) → (A → A) → ℕ → List ℕ → ℕ → A → A
+eachRecord make stop zero bytes i a = a
+eachRecord make stop (suc n) bytes i a = onward make stop (recordAt bytes i) a (eachRecord make stop n bytes (suc i))
 
 -- the whole records among some bytes, and no more than a limit
-abbrev pub within : ℕ → List ℕ → ℕ
-within limit bytes = let n = length bytes / 12 in cond (ltb limit n) limit n
+abbrev pub wholeRecords : ℕ → List ℕ → ℕ
+wholeRecords limit bytes = let n = length bytes / 12 in cond (ltb limit n) limit n

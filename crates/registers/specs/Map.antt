@@ -28,17 +28,17 @@ named =
     ∷ []
 
 -- the offset of one of sixteen words from base on
-abbrev pub within : ℕ → ℕ → Bool
-within base o = leb base o && leb o (base + 0x3c) && eqb (o % 4) 0
+abbrev pub inMemory : ℕ → ℕ → Bool
+inMemory base o = leb base o && leb o (base + 0x3c) && eqb (o % 4) 0
 
 -- `offload.keeps`: the offload command or data word at an offset; Unmapped, which is answered 4, at any other
 unfoldable pub offload : ℕ → Register
-offload o = cond (within 0x2c0 o) (OffloadCmd ((o - 0x2c0) / 4)) (cond (within 0x300 o) (OffloadSdo ((o - 0x300) / 4)) Unmapped)
+offload o = cond (inMemory 0x2c0 o) (OffloadCmd ((o - 0x2c0) / 4)) (cond (inMemory 0x300 o) (OffloadSdo ((o - 0x300) / 4)) Unmapped)
 
-unfoldable pub find : ℕ → List Entry → Register → Register
-find o [] other = other
-find o (e ∷ es) other = let r = find o es other in cond (eqb o (e .offset)) (e .register) r
+unfoldable pub entryAt : ℕ → List Entry → Register → Register
+entryAt o [] other = other
+entryAt o (e ∷ es) other = let r = entryAt o es other in cond (eqb o (e .offset)) (e .register) r
 
 -- the register at an offset
 abbrev pub registerAt : ℕ → Register
-registerAt o = find o named (offload o)
+registerAt o = entryAt o named (offload o)

@@ -7,38 +7,38 @@ use Rattle.model.specs.Rings.{Controller}
 use Rattle.letters.specs.declared.Parsed.{Parsed}
 use Rattle.lines.specs.declared.Reading.{Reading}
 use Rattle.lines.specs.Lines.{before, behind, lineNames}
-use Rattle.lines.specs.Automaton.{fresh, eatOf, readingOf, callOf}
+use Rattle.lines.specs.Automaton.{unread, eatOf, readingOf, callRead}
 use Rattle.lines.proofs.Choices.{chosen, passed, split}
 use Rattle.lines.proofs.Grammar.{reads-the-grammar}
-use Rattle.sessions.specs.Session.{Told, told, ranOf, Session, session, lineEnd, fedByte, fed, afterLine, EachLineIsRead}
+use Rattle.sessions.specs.Session.{Printed, withText, ranOf, Session, session, lineEnd, fedByte, sessionFed, afterLine, EachLineIsRead}
 
-abbrev between : Told → Session
-between t = session (t .controller) fresh (t .text)
+abbrev between : Printed → Session
+between t = session (t .controller) unread (t .text)
 
 -- the end of a line whose bytes are `part`
-line-read : (l : Controller) (t part : List ℕ) → lineEnd (session l (readingOf part) t) ≡ between (afterLine (told l t) part)
-line-read l t part = ap (λ (p : Parsed). let y = ranOf l p in session (y .controller) fresh (t ++ y .text)) (reads-the-grammar part)
+line-read : (l : Controller) (t part : List ℕ) → lineEnd (session l (readingOf part) t) ≡ between (afterLine (withText l t) part)
+line-read l t part = ap (λ (p : Parsed). let y = ranOf l p in session (y .controller) unread (t ++ y .text)) (reads-the-grammar part)
 
 -- the rest of an input, `part` being what came of a line
 by-lines : (bytes : List ℕ) (l : Controller) (t part : List ℕ)
-    → lineEnd (fed (session l (readingOf part) t) bytes) ≡ between (foldl afterLine (told l t) ((part ++ before 0x0a bytes) ∷ behind 0x0a bytes))
-unfolding fed before behind
-by-lines [] l t part = line-read l t part ∙ ap (λ (x : List ℕ). between (afterLine (told l t) x)) (sym (append-nil part))
+    → lineEnd (sessionFed (session l (readingOf part) t) bytes) ≡ between (foldl afterLine (withText l t) ((part ++ before 0x0a bytes) ∷ behind 0x0a bytes))
+unfolding sessionFed before behind
+by-lines [] l t part = line-read l t part ∙ ap (λ (x : List ℕ). between (afterLine (withText l t) x)) (sym (append-nil part))
 by-lines (b ∷ bytes) l t part =
     let s = session l (readingOf part) t in
     let first = before 0x0a bytes in
     let rest = behind 0x0a bytes in
-    let lines : List ℕ → List (List ℕ) → Session = λ x xs. between (foldl afterLine (told l t) ((part ++ x) ∷ xs)) in
+    let lines : List ℕ → List (List ℕ) → Session = λ x xs. between (foldl afterLine (withText l t) ((part ++ x) ∷ xs)) in
     split (eqb b 0x0a)
     (λ e.
-    ap (λ (x : Session). lineEnd (fed x bytes)) (chosen (eqb b 0x0a) (lineEnd s) (session l (eatOf (readingOf part) b) t) e ∙ line-read l t part)
-    ∙ by-lines bytes (afterLine (told l t) part .controller) (afterLine (told l t) part .text) []
-    ∙ ap (λ (x : List ℕ). between (foldl afterLine (told l t) (x ∷ first ∷ rest))) (sym (append-nil part))
+    ap (λ (x : Session). lineEnd (sessionFed x bytes)) (chosen (eqb b 0x0a) (lineEnd s) (session l (eatOf (readingOf part) b) t) e ∙ line-read l t part)
+    ∙ by-lines bytes (afterLine (withText l t) part .controller) (afterLine (withText l t) part .text) []
+    ∙ ap (λ (x : List ℕ). between (foldl afterLine (withText l t) (x ∷ first ∷ rest))) (sym (append-nil part))
     ∙ sym (ap₂ lines (chosen (eqb b 0x0a) [] (b ∷ first) e) (chosen (eqb b 0x0a) (first ∷ rest) rest e)))
     (λ e.
-    ap (λ (x : Session). lineEnd (fed x bytes)) (passed (eqb b 0x0a) (lineEnd s) (session l (eatOf (readingOf part) b) t) e ∙ ap (λ (r : Reading). session l r t) (sym (foldl-append eatOf fresh part (b ∷ []))))
+    ap (λ (x : Session). lineEnd (sessionFed x bytes)) (passed (eqb b 0x0a) (lineEnd s) (session l (eatOf (readingOf part) b) t) e ∙ ap (λ (r : Reading). session l r t) (sym (foldl-append eatOf unread part (b ∷ []))))
     ∙ by-lines bytes l t (part ++ b ∷ [])
-    ∙ ap (λ (x : List ℕ). between (foldl afterLine (told l t) (x ∷ rest))) (append-assoc part (b ∷ []) first)
+    ∙ ap (λ (x : List ℕ). between (foldl afterLine (withText l t) (x ∷ rest))) (append-assoc part (b ∷ []) first)
     ∙ sym (ap₂ lines (passed (eqb b 0x0a) [] (b ∷ first) e) (passed (eqb b 0x0a) (first ∷ rest) rest e)))
 
 pub each-line-is-read : EachLineIsRead

@@ -7,8 +7,8 @@ ghost use Prim.Native.Nat.{ℕ, _+_, _*_, _≤_};
 ghost use lib.ListN.{length, take};
 ghost use Rattle.answer.specs.Given.{controller};
 ghost use Rattle.letters.specs.declared.Parsed.the-variants.{Named, Skipped};
-ghost use Rattle.lines.specs.Automaton.{callOf};
-ghost use Rattle.sessions.specs.Session.{ranOf, ranTold, endedSession, fedSession, session, lineEnd, fed};
+ghost use Rattle.lines.specs.Automaton.{callRead};
+ghost use Rattle.sessions.specs.Session.{ranOf, ranTold, endedSession, fedSession, session, lineEnd, sessionFed};
 use bank::Bank;
 use letters::Parsed;
 use lines::Reading;
@@ -48,7 +48,7 @@ fn silent(b: Bank) -> Ran
 
 // The end of a line: the call that it names is made, and its answer printed.
 pub fn run(b: Bank, store: &mut [u32], output: &mut [u32], line: Reading) -> Ran
-    ensures { λ r. ⌜ ranTold r (now (store .exit)) (now (output .exit)) ≡ ranOf (controller b (now (store .entry)) (now (output .entry))) (callOf line) ⌝ }
+    ensures { λ r. ⌜ ranTold r (now (store .exit)) (now (output .exit)) ≡ ranOf (controller b (now (store .entry)) (now (output .entry))) (callRead line) ⌝ }
 {
     match lines::named(line) {
         Parsed::Named(c) => serve(b, store, output, c),
@@ -92,7 +92,7 @@ pub fn end_line(
 }
 
 // The bank and the line so far after a piece of the input, and how many bytes of the text are filled.
-pub struct Fed {
+pub struct SessionTurn {
     pub bank: Bank,
     pub line: Reading,
     pub count: usize,
@@ -106,9 +106,9 @@ pub fn feed(
     line: Reading,
     piece: &[u8],
     out: &mut [u8],
-) -> Fed
+) -> SessionTurn
     requires { ⌜ 12 * length (now piece) ≤ length (now out) ⌝ }
-    ensures { λ r. ⌜ (fedSession r (now (store .exit)) (now (output .exit)) (now (out .exit)) ≡ fed (session (controller b (now (store .entry)) (now (output .entry))) line []) (now (piece .entry))) × (r .count ≤ length (now (out .exit))) ⌝ }
+    ensures { λ r. ⌜ (fedSession r (now (store .exit)) (now (output .exit)) (now (out .exit)) ≡ sessionFed (session (controller b (now (store .entry)) (now (output .entry))) line []) (now (piece .entry))) × (r .count ≤ length (now (out .exit))) ⌝ }
 {
     let mut bank = b;
     let mut reading = line;
@@ -124,7 +124,7 @@ pub fn feed(
         count = e.count;
         reading = lines::begin();
     }
-    Fed {
+    SessionTurn {
         bank: bank,
         line: reading,
         count: count,

@@ -1,7 +1,7 @@
 // Set-up (`set-up.numbers`, `set-up.fresh`, `set-up.refused`): the bank and the answer for five capacities, five
 // watermarks and an ID; the bank of a session. It knows no call.
 ghost use mathlib.Core.Path.{_≡_};
-ghost use Rattle.bank.specs.SetUp.{countsOf, sizesOk, zeros, noHeads, bankOf, refused, setUp};
+ghost use Rattle.bank.specs.SetUp.{countsOf, sizesOk, zeros, noHeads, bankOf, refusedSetUp, setUp};
 use bank::Answer;
 use bank::Bank;
 use bank::Counts;
@@ -98,7 +98,7 @@ fn fresh_bank(caps: Sizes, marks: Sizes, held: bool, id: u8) -> Bank
 
 // What a refused set-up gives (`set-up.refused`).
 fn refused_set_up() -> SetUp
-    ensures { λ r. ⌜ r ≡ refused ⌝ }
+    ensures { λ r. ⌜ r ≡ refusedSetUp ⌝ }
 {
     let none = no_sizes();
     let b = fresh_bank(none, none, false, 0);

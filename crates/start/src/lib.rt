@@ -25,7 +25,7 @@ fn kind_of(two: bool, w: u32, x: u32) -> Kind
     if !two {
         return Kind::Private;
     }
-    if x / 128 % 2 == 1 {
+    if x / 0x80 % 2 == 1 {
         return Kind::Direct;
     }
     Kind::Broadcast
@@ -35,7 +35,7 @@ fn kind_of(two: bool, w: u32, x: u32) -> Kind
 fn is_entdaa(two: bool, w: u32, x: u32) -> bool
     ensures { λ r. ⌜ r ≡ isEntdaa (commandOf two w x) ⌝ }
 {
-    two & (x % 256 == 7)
+    two & (x % 0x100 == 7)
 }
 
 // The transfer that a command opens (`command.word`).
@@ -43,7 +43,7 @@ fn opened_by(two: bool, w: u32, x: u32, attached: bool) -> Transfer
     ensures { λ t. ⌜ t ≡ opened (commandOf two w x) attached ⌝ }
 {
     let k = kind_of(two, w, x);
-    let n = bank::select(is_entdaa(two, w, x), 0, w / 256 % 4096);
+    let n = bank::select(is_entdaa(two, w, x), 0, w / 0x100 % 0x1000);
     Transfer {
         kind: k,
         header: w / 0x200000 % 2 == 1,

@@ -13,22 +13,22 @@ use Rattle.trace_model.specs.Head.{headOf}
 use Rattle.trace_model.proofs.Heads.{more-short, right-within}
 use Rattle.stream_model.specs.declared.Stage.{Stage}
 use Rattle.stream_model.specs.declared.Stage.the-variants.{Opening, Records, Over}
-use Rattle.stream_model.specs.Stream.{Stream, stream, over, recordsOf, openedBy, fed}
-use Rattle.stream_end.specs.declared.Fed.{Fed}
+use Rattle.stream_model.specs.Stream.{Stream, stream, over, recordsOf, openedBy, streamFed}
+use Rattle.stream_end.specs.declared.StreamTurn.{StreamTurn}
 use Rattle.stream_end.specs.Given.{fedBy}
 
 module _ (b : Bank) (store bytes : List ℕ) (stage : Stage) where
-  pub at-opening : (x : Stream) → stage ≡ Opening → x ≡ openedBy (controller b store []) bytes (headOf bytes) → x ≡ fed (controller b store []) stage bytes
-  unfolding fed
-  at-opening x e f = f ∙ ap (λ (z : Stage). fed (controller b store []) z bytes) (sym e)
+  pub at-opening : (x : Stream) → stage ≡ Opening → x ≡ openedBy (controller b store []) bytes (headOf bytes) → x ≡ streamFed (controller b store []) stage bytes
+  unfolding streamFed
+  at-opening x e f = f ∙ ap (λ (z : Stage). streamFed (controller b store []) z bytes) (sym e)
 
-  pub at-records : (x : Stream) (due : ℕ) → stage ≡ Records due → x ≡ recordsOf (controller b store []) due bytes → x ≡ fed (controller b store []) stage bytes
-  unfolding fed
-  at-records x due e f = f ∙ ap (λ (z : Stage). fed (controller b store []) z bytes) (sym e)
+  pub at-records : (x : Stream) (due : ℕ) → stage ≡ Records due → x ≡ recordsOf (controller b store []) due bytes → x ≡ streamFed (controller b store []) stage bytes
+  unfolding streamFed
+  at-records x due e f = f ∙ ap (λ (z : Stage). streamFed (controller b store []) z bytes) (sym e)
 
-  pub at-end : stage ≡ Over → stream (controller b store []) Over (length bytes) [] ≡ fed (controller b store []) stage bytes
-  unfolding fed
-  at-end e = ap (λ (z : Stage). fed (controller b store []) z bytes) (sym e)
+  pub at-end : stage ≡ Over → stream (controller b store []) Over (length bytes) [] ≡ streamFed (controller b store []) stage bytes
+  unfolding streamFed
+  at-end e = ap (λ (z : Stage). streamFed (controller b store []) z bytes) (sym e)
 
 -- ── The first piece ───────────────────────────────────────────────────────────────────────────────────────────
 module _ (bytes : List ℕ) (found : Head) (is : found ≡ headOf bytes) where
@@ -46,7 +46,7 @@ module _ (bytes : List ℕ) (found : Head) (is : found ≡ headOf bytes) where
     head-wrong x number e f = f ∙ ap (openedBy (controller b store []) bytes) (sym (sym is ∙ e))
 
     -- the records behind the head
-    pub head-right : (y : Fed) (left text : List ℕ) (n records : ℕ) → found ≡ Right n records
+    pub head-right : (y : StreamTurn) (left text : List ℕ) (n records : ℕ) → found ≡ Right n records
         → fedBy y left text ≡ recordsOf (controller b store []) records (take (length bytes - n) (drop n bytes))
         → stream (controller (y .bank) left []) (y .stage) (n + y .used) (take (y .count) text) ≡ openedBy (controller b store []) bytes (headOf bytes)
     head-right y left text n records e f =

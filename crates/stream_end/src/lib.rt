@@ -14,7 +14,7 @@ use bank::Bank;
 use stream_model::Stage;
 
 // The bank after a piece, what is to come, how many of its bytes were used, and how many bytes of the text are filled.
-pub struct Fed {
+pub struct StreamTurn {
     pub bank: Bank,
     pub stage: Stage,
     pub used: usize,
@@ -33,14 +33,14 @@ fn refusal(number: u32) -> [u8; 12]
 }
 
 // A replay that ends with a number of its own: a layer, no interface.
-pub fn close(b: Bank, number: u32, used: usize, out: &mut [u8], at: usize) -> Fed
+pub fn close(b: Bank, number: u32, used: usize, out: &mut [u8], at: usize) -> StreamTurn
     requires { ⌜ at + 12 ≤ length (now out) ⌝ }
     ensures { λ r. ⌜ ((s : List ℕ) → fedBy r s (now (out .exit)) ≡ stream (controller b s []) Over used (take at (now (out .entry)) ++ lineOf 0 number)) × (r .count ≡ at + 12) × (r .used ≡ used) ⌝ }
 {
     let end = at + 12;
     let text = refusal(number);
     print::put(out, at, text);
-    Fed {
+    StreamTurn {
         bank: b,
         stage: Stage::Over,
         used: used,

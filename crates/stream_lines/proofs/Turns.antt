@@ -16,10 +16,10 @@ use Rattle.faults.proofs.Guards.{kept}
 use Rattle.letters.specs.declared.Parsed.{Parsed}
 use Rattle.letters.specs.declared.Parsed.the-variants.{Named, Skipped}
 use Rattle.print.specs.Line.{lineOf}
-use Rattle.record_model.specs.Record.{recordAt, each}
+use Rattle.record_model.specs.Record.{recordAt, eachRecord}
 use Rattle.record_model.proofs.Each.{stops, ends}
 use Rattle.record_model.proofs.Kept.{same-size, same-output, empty}
-use Rattle.stream_model.specs.Stream.{Printed, printed, said, met}
+use Rattle.stream_model.specs.Stream.{Printed, recordsPrinted, said, met}
 use Rattle.stream_model.proofs.Text.{next}
 use Rattle.stream_lines.specs.declared.Lines.{Lines}
 use Rattle.stream_lines.specs.Given.{shownParts}
@@ -38,20 +38,20 @@ module _ (l : Controller) (k : Call) (y : Next) (flags commands payloads output 
 
   -- and the records after it give what it and they gave
   pub line-done : (n i : ℕ) (bytes t text out : List ℕ) (all : Printed) (found : Parsed) → i < n → found ≡ recordAt bytes i → found ≡ Named k
-      → text ≡ lineOf (y .answer .value) (y .answer .number) → take (12 * i + 12) out ≡ t ++ text → each said met (n - i) bytes i (printed l t false) ≡ all
-      → each said met (n - (i + 1)) bytes (i + 1) (printed (controller (bankWith (y .state) (y .heads) (tables flags commands payloads output)) store output) (take (12 * (i + 1)) out) false) ≡ all
+      → text ≡ lineOf (y .answer .value) (y .answer .number) → take (12 * i + 12) out ≡ t ++ text → eachRecord said met (n - i) bytes i (recordsPrinted l t false) ≡ all
+      → eachRecord said met (n - (i + 1)) bytes (i + 1) (recordsPrinted (controller (bankWith (y .state) (y .heads) (tables flags commands payloads output)) store output) (take (12 * (i + 1)) out) false) ≡ all
   line-done n i bytes t text out all found h e f g p r = next n i bytes l k (given y (tables flags commands payloads output) store) t text out h (sym e ∙ f) made g p ∙ r
 
-module _ (n i : ℕ) (bytes out : List ℕ) (l : Controller) (all : Printed) (left : each said met (n - i) bytes i (printed l (take (12 * i) out) false) ≡ all) where
+module _ (n i : ℕ) (bytes out : List ℕ) (l : Controller) (all : Printed) (left : eachRecord said met (n - i) bytes i (recordsPrinted l (take (12 * i) out) false) ≡ all) where
   -- a wrong record
-  pub line-wrong : (found : Parsed) → i < n → found ≡ recordAt bytes i → found ≡ Skipped → printed l (take (12 * i) out) true ≡ all
-  line-wrong found h e f = stops said met n i bytes (printed l (take (12 * i) out) false) h (sym e ∙ f) ∙ left
+  pub line-wrong : (found : Parsed) → i < n → found ≡ recordAt bytes i → found ≡ Skipped → recordsPrinted l (take (12 * i) out) true ≡ all
+  line-wrong found h e f = stops said met n i bytes (recordsPrinted l (take (12 * i) out) false) h (sym e ∙ f) ∙ left
 
   -- past the last
-  pub lines-done : i ≤ n → n ≤ i → printed l (take (12 * n) out) false ≡ all
+  pub lines-done : i ≤ n → n ≤ i → recordsPrinted l (take (12 * n) out) false ≡ all
   lines-done h k =
       let e : n ≡ i = omega arith in
-      ap (λ (m : ℕ). printed l (take (12 * m) out) false) e ∙ ends said met n i bytes (printed l (take (12 * i) out) false) k ∙ left
+      ap (λ (m : ℕ). recordsPrinted l (take (12 * m) out) false) e ∙ ends said met n i bytes (recordsPrinted l (take (12 * i) out) false) k ∙ left
 
 -- the output that is lent is empty, and stays so
 pub no-output : (x all : Printed) (y : Lines) (flags commands payloads output store out : List ℕ) → x ≡ shownParts y (tables flags commands payloads []) store out → length output ≡ 0

@@ -9,8 +9,8 @@ ghost use lib.ListN.{length};
 ghost use Rattle.model.specs.View.{tables};
 ghost use Rattle.answer.specs.Given.{bankWith, controller};
 ghost use Rattle.faults.specs.Faults.{faultNumber};
-ghost use Rattle.record_model.specs.Record.{each};
-ghost use Rattle.stream_model.specs.Stream.{printed, said, met, lines};
+ghost use Rattle.record_model.specs.Record.{eachRecord};
+ghost use Rattle.stream_model.specs.Stream.{recordsPrinted, said, met, lines};
 ghost use Rattle.stream_lines.specs.Given.{shownParts, shownBank};
 use bank::Bank;
 use bank::Heads;
@@ -47,7 +47,7 @@ fn show_parts(
     out: &mut [u8],
 ) -> Lines
     requires { ⌜ (fault ≡ faultNumber (bankWith st heads (tables (now flags) (now commands) (now payloads) (now output))) (length (now store))) × (12 * n ≤ length (now records)) × (12 * n ≤ length (now out)) ⌝ }
-    ensures { λ r. ⌜ (shownParts r (tables (now (flags .exit)) (now (commands .exit)) (now (payloads .exit)) (now (output .exit))) (now (store .exit)) (now (out .exit)) ≡ each said met n (now (records .entry)) 0 (printed (controller (bankWith st heads (tables (now (flags .entry)) (now (commands .entry)) (now (payloads .entry)) (now (output .entry)))) (now (store .entry)) (now (output .entry))) [] false)) × (r .count ≤ 12 * n) ⌝ }
+    ensures { λ r. ⌜ (shownParts r (tables (now (flags .exit)) (now (commands .exit)) (now (payloads .exit)) (now (output .exit))) (now (store .exit)) (now (out .exit)) ≡ eachRecord said met n (now (records .entry)) 0 (recordsPrinted (controller (bankWith st heads (tables (now (flags .entry)) (now (commands .entry)) (now (payloads .entry)) (now (output .entry)))) (now (store .entry)) (now (output .entry))) [] false)) × (r .count ≤ 12 * n) ⌝ }
 {
     let mut s = st;
     let mut h = heads;

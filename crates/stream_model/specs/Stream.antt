@@ -13,7 +13,7 @@ use Rattle.print.specs.Line.{lineOf}
 use Rattle.trace_model.specs.declared.Head.{Head}
 use Rattle.trace_model.specs.declared.Head.the-variants.{More, Wrong, Right}
 use Rattle.trace_model.specs.Head.{headOf, cutHead}
-use Rattle.record_model.specs.Record.{each, within}
+use Rattle.record_model.specs.Record.{eachRecord, wholeRecords}
 use Rattle.stream_model.specs.declared.Stage.{Stage}
 use Rattle.stream_model.specs.declared.Stage.the-variants.{Opening, Records, Over}
 
@@ -24,20 +24,20 @@ pub record Printed : Type 0 where
   pub text : List ℕ
   pub wrong : Bool
 
-abbrev pub printed : Controller → List ℕ → Bool → Printed
-printed l t w = record { left = l; text = t; wrong = w }
+abbrev pub recordsPrinted : Controller → List ℕ → Bool → Printed
+recordsPrinted l t w = record { left = l; text = t; wrong = w }
 
 -- `replay.program`: the call of a record is made, and its line is printed as in a session
 abbrev pub said : Call → Printed → Printed
-said k p = let s = step rings (p .left) k in printed (s .next) (p .text ++ lineOf (s .answer .value) (s .answer .number)) false
+said k p = let s = step rings (p .left) k in recordsPrinted (s .next) (p .text ++ lineOf (s .answer .value) (s .answer .number)) false
 
 -- a wrong record is met
 abbrev pub met : Printed → Printed
-met p = printed (p .left) (p .text) true
+met p = recordsPrinted (p .left) (p .text) true
 
 -- the first n records
 abbrev pub lines : ℕ → List ℕ → Controller → Printed
-lines n bytes l = each said met n bytes 0 (printed l [] false)
+lines n bytes l = eachRecord said met n bytes 0 (recordsPrinted l [] false)
 
 -- ── A piece ───────────────────────────────────────────────────────────────────────────────────────────────────
 -- what a piece leaves: the controller, what is to come, how many of the bytes were used, and what was printed
@@ -57,7 +57,7 @@ over l bytes text number = stream l Over (length bytes) (text ++ lineOf 0 number
 -- the whole records of a piece: 27 at a wrong one; 25 where bytes follow the last that the table has
 abbrev pub recordsOf : Controller → ℕ → List ℕ → Stream
 recordsOf l to-come bytes =
-    let n = within to-come bytes in
+    let n = wholeRecords to-come bytes in
     let p = lines n bytes l in
     cond (p .wrong) (over (p .left) bytes (p .text) number.wrongRecord)
     (cond (eqb n to-come && ltb (12 * n) (length bytes)) (over (p .left) bytes (p .text) number.wrongTable)
@@ -70,10 +70,10 @@ openedBy l bytes (Wrong number) = over l bytes [] number
 openedBy l bytes (Right n records) = let s = recordsOf l records (drop n bytes) in stream (s .left) (s .stage) (n + s .used) (s .text)
 
 -- what a piece does at a stage; once over, nothing
-unfoldable pub fed : Controller → Stage → List ℕ → Stream
-fed l Opening bytes = openedBy l bytes (headOf bytes)
-fed l (Records to-come) bytes = recordsOf l to-come bytes
-fed l Over bytes = stream l Over (length bytes) []
+unfoldable pub streamFed : Controller → Stage → List ℕ → Stream
+streamFed l Opening bytes = openedBy l bytes (headOf bytes)
+streamFed l (Records to-come) bytes = recordsOf l to-come bytes
+streamFed l Over bytes = stream l Over (length bytes) []
 
 abbrev pub isOver : Stage → Bool
 isOver Opening = false
@@ -92,4 +92,4 @@ endText s n = cond (eqb (endNumber s n) 0) [] (lineOf 0 (endNumber s n))
 
 -- what is printed for a whole input
 abbrev pub transcript : Controller → List ℕ → List ℕ
-transcript l bytes = let s = fed l Opening bytes in s .text ++ endText (s .stage) (length bytes - s .used)
+transcript l bytes = let s = streamFed l Opening bytes in s .text ++ endText (s .stage) (length bytes - s .used)

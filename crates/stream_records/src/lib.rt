@@ -9,11 +9,17 @@ ghost use Rattle.answer.specs.Given.{controller};
 ghost use Rattle.stream_model.specs.Stream.{recordsOf};
 ghost use Rattle.stream_end.specs.Given.{fedBy};
 use bank::Bank;
-use stream_end::Fed;
+use stream_end::StreamTurn;
 use stream_model::Stage;
 
 // The records of a piece: a layer, no interface.
-pub fn feed_records(b: Bank, store: &mut [u32], due: usize, bytes: &[u8], out: &mut [u8]) -> Fed
+pub fn feed_records(
+    b: Bank,
+    store: &mut [u32],
+    due: usize,
+    bytes: &[u8],
+    out: &mut [u8],
+) -> StreamTurn
     requires { ⌜ length (now bytes) + 12 ≤ length (now out) ⌝ }
     ensures { λ r. ⌜ (fedBy r (now (store .exit)) (now (out .exit)) ≡ recordsOf (controller b (now (store .entry)) []) due (now (bytes .entry))) × (r .count ≤ length (now (out .exit))) × (r .used ≤ length (now (bytes .entry))) × (length (now (bytes .entry)) < r .used + 12) ⌝ }
 {
@@ -28,7 +34,7 @@ pub fn feed_records(b: Bank, store: &mut [u32], due: usize, bytes: &[u8], out: &
     if (n == due) & (12 * n < len) {
         return stream_end::close(next, number::WRONG_TABLE, len, out, count);
     }
-    Fed {
+    StreamTurn {
         bank: next,
         stage: Stage::Records(due - n),
         used: 12 * n,

@@ -12,10 +12,10 @@ abbrev pub mark : List ℕ
 mark = 0x49 ∷ 0x33 ∷ 0x54 ∷ 0x52 ∷ []
 
 -- the first list is the beginning of the second
-abbrev pub opens : List ℕ → List ℕ → Bool
-opens [] file = true
-opens (m ∷ ms) [] = false
-opens (m ∷ ms) (b ∷ file) = eqb b m && opens ms file
+abbrev pub beginsWith : List ℕ → List ℕ → Bool
+beginsWith [] file = true
+beginsWith (m ∷ ms) [] = false
+beginsWith (m ∷ ms) (b ∷ file) = eqb b m && beginsWith ms file
 
 -- the count of sections, behind the mark
 abbrev pub sections : List ℕ → ℕ
@@ -34,13 +34,13 @@ records file zero = 0
 records file (suc i) = records file i + countAt file i
 
 -- where section i has to begin and, past the last, where the file has to end: mark and table, then 12 bytes for each record before it
-abbrev pub placeOf : List ℕ → ℕ → ℕ
-placeOf file i = 6 + 8 * sections file + 12 * records file i
+abbrev pub sectionPlace : List ℕ → ℕ → ℕ
+sectionPlace file i = 6 + 8 * sections file + 12 * records file i
 
 -- the first i starts are at those places
 unfoldable pub startsRight : List ℕ → ℕ → Bool
 startsRight file zero = true
-startsRight file (suc i) = startsRight file i && eqb (startAt file i) (placeOf file i)
+startsRight file (suc i) = startsRight file i && eqb (startAt file i) (sectionPlace file i)
 
 -- 25 of `trace.refused`: the count of sections is there and in range, the table is whole, each start is where it has to be, and the file
 -- ends where the counts say and has 16 MiB at most
@@ -51,12 +51,12 @@ tableRight file =
     && leb (sections file) 64
     && leb (6 + 8 * sections file) (length file)
     && startsRight file (sections file)
-    && eqb (placeOf file (sections file)) (length file)
+    && eqb (sectionPlace file (sections file)) (length file)
     && leb (length file) 0x1000000
 
 -- `trace.refused`, of the file as a whole: 24 for the mark, then 25
 unfoldable pub fault : List ℕ → ℕ
-fault file = cond (opens mark file) (cond (tableRight file) 0 number.wrongTable) number.wrongMark
+fault file = cond (beginsWith mark file) (cond (tableRight file) 0 number.wrongTable) number.wrongMark
 
 -- `trace.refused`: 24 and 25, then 26
 unfoldable pub lookNumber : List ℕ → ℕ → ℕ

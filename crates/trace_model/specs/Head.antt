@@ -7,7 +7,7 @@ use lib.ListN.{length}
 use Rattle.number.specs.Names as number
 use Rattle.trace_model.specs.declared.Head.{Head}
 use Rattle.trace_model.specs.declared.Head.the-variants.{More, Wrong, Right}
-use Rattle.trace_model.specs.Format.{mark, opens, sections, records, placeOf, startsRight}
+use Rattle.trace_model.specs.Format.{mark, beginsWith, sections, records, sectionPlace, startsRight}
 
 -- the length of mark and table; the records stand behind them
 abbrev pub headLength : List ℕ → ℕ
@@ -17,7 +17,7 @@ headLength bytes = 6 + 8 * sections bytes
 abbrev pub tableTold : List ℕ → Head
 tableTold bytes =
     let n = sections bytes in
-    cond (startsRight bytes n && leb (placeOf bytes n) 0x1000000) (Right (headLength bytes) (records bytes n)) (Wrong number.wrongTable)
+    cond (startsRight bytes n && leb (sectionPlace bytes n) 0x1000000) (Right (headLength bytes) (records bytes n)) (Wrong number.wrongTable)
 
 -- 25 for a count of sections out of range
 abbrev pub countTold : List ℕ → Head
@@ -29,7 +29,7 @@ countTold bytes =
 abbrev pub headOf : List ℕ → Head
 headOf bytes =
     cond (ltb (length bytes) 4) More
-    (cond (opens mark bytes) (cond (ltb (length bytes) 6) More (countTold bytes)) (Wrong number.wrongMark))
+    (cond (beginsWith mark bytes) (cond (ltb (length bytes) 6) More (countTold bytes)) (Wrong number.wrongMark))
 
 -- the number of a file of n bytes that ends in its mark, or else in its table
 abbrev pub cutHead : ℕ → ℕ

@@ -6,7 +6,7 @@ use mathlib.Core.Bool.{Bool, true, false, not}
 use mathlib.Core.List.{List}
 use lib.ListN.{length}
 use borrow.Author.Tests.{not-true, not-false}
-use Rattle.trace_model.specs.Format.{mark, opens, sections, placeOf, startsRight, tableRight, fault}
+use Rattle.trace_model.specs.Format.{mark, beginsWith, sections, sectionPlace, startsRight, tableRight, fault}
 use Rattle.trace_model.proofs.Table.{wrong, turned}
 
 module _ (file : List ℕ) (n : ℕ) (is : n ≡ sections file) where
@@ -23,21 +23,21 @@ module _ (file : List ℕ) where
   pub count-cut : length file < 6 → false ≡ tableRight file
   count-cut h = wrong file (λ t. let l = t .head in omega arith)
 
-  pub unmarked : (m : Bool) → m ≡ opens mark file → not m ≡ true → 24 ≡ fault file
+  pub unmarked : (m : Bool) → m ≡ beginsWith mark file → not m ≡ true → 24 ≡ fault file
   unfolding fault
   unmarked m e h = rw (sym e, not-true m h)
 
-  pub table-wrong : (m t : Bool) → m ≡ opens mark file → not m ≡ false → t ≡ tableRight file → not t ≡ true → 25 ≡ fault file
+  pub table-wrong : (m t : Bool) → m ≡ beginsWith mark file → not m ≡ false → t ≡ tableRight file → not t ≡ true → 25 ≡ fault file
   unfolding fault
   table-wrong m t e h f k = rw (sym e, not-false m h, sym f, not-true t k)
 
-  pub faultless : (m t : Bool) → m ≡ opens mark file → not m ≡ false → t ≡ tableRight file → not t ≡ false → 0 ≡ fault file
+  pub faultless : (m t : Bool) → m ≡ beginsWith mark file → not m ≡ false → t ≡ tableRight file → not t ≡ false → 0 ≡ fault file
   unfolding fault
   faultless m t e h f k = rw (sym e, not-false m h, sym f, not-false t k)
 
-module _ (file : List ℕ) (n i : ℕ) (r : Bool) (at : ℕ) (p : i ≤ n) (q : n ≤ i) (e : r ≡ startsRight file i) (f : at ≡ placeOf file i) where
+module _ (file : List ℕ) (n i : ℕ) (r : Bool) (at : ℕ) (p : i ≤ n) (q : n ≤ i) (e : r ≡ startsRight file i) (f : at ≡ sectionPlace file i) where
   pub all-start : r ≡ startsRight file n
   all-start = turned file n i r at p q e f .0
 
-  pub last-ends : at ≡ placeOf file n
+  pub last-ends : at ≡ sectionPlace file n
   last-ends = turned file n i r at p q e f .1

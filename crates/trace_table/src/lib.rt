@@ -3,11 +3,11 @@
 ghost use mathlib.Core.Path.{_≡_};
 ghost use Prim.Native.Nat.{_+_, _*_, _<_, _≤_};
 ghost use lib.ListN.{length};
-ghost use Rattle.trace_model.specs.Format.{mark, opens, sections, startAt, countAt, placeOf, startsRight, tableRight, fault};
+ghost use Rattle.trace_model.specs.Format.{mark, beginsWith, sections, startAt, countAt, sectionPlace, startsRight, tableRight, fault};
 
 // Whether the file opens with the mark.
 pub fn marked(file: &[u8]) -> bool
-    ensures { λ r. ⌜ r ≡ opens mark (now (file .entry)) ⌝ }
+    ensures { λ r. ⌜ r ≡ beginsWith mark (now (file .entry)) ⌝ }
 {
     let mark = b"I3TR";
     if file.len() < 4 {
@@ -48,7 +48,7 @@ pub struct Walked {
 // The starts of a table of `n` sections, one after another.
 pub fn walk(file: &[u8], n: u32) -> Walked
     requires { ⌜ (n ≡ sections (now file)) × (n ≤ 64) × (6 + 8 * n ≤ length (now file)) ⌝ }
-    ensures { λ r. ⌜ (r .right ≡ startsRight (now (file .entry)) n) × (r .end ≡ placeOf (now (file .entry)) n) ⌝ }
+    ensures { λ r. ⌜ (r .right ≡ startsRight (now (file .entry)) n) × (r .end ≡ sectionPlace (now (file .entry)) n) ⌝ }
 {
     let mut right = true;
     let mut at: u64 = 6 + 8 * (n as u64);

@@ -265,14 +265,14 @@ fn put(said: bool, a: Answer, out: &mut [u8], at: usize) -> usize
 }
 
 // The board and the line so far, and how many bytes of the text are filled.
-struct Fed {
+struct Pieces {
     board: Board,
     line: Line,
     count: usize,
 }
 
 // A piece of the input. The text has room for a line a byte.
-fn feed(board: Board, store: &mut [u32], line: Line, piece: &[u8], out: &mut [u8]) -> Fed
+fn feed(board: Board, store: &mut [u32], line: Line, piece: &[u8], out: &mut [u8]) -> Pieces
     requires { ⌜ 12 * length (now piece) ≤ length (now out) ⌝ }
     ensures { λ r. ⌜ r .count ≤ length (now (out .exit)) ⌝ }
 {
@@ -290,7 +290,7 @@ fn feed(board: Board, store: &mut [u32], line: Line, piece: &[u8], out: &mut [u8
         count = put(e.said, e.answer, out, count);
         so_far = begin();
     }
-    Fed {
+    Pieces {
         board: after,
         line: so_far,
         count: count,
@@ -298,7 +298,7 @@ fn feed(board: Board, store: &mut [u32], line: Line, piece: &[u8], out: &mut [u8
 }
 
 // The board and the line so far; whether there may be more to read; whether all text was written.
-struct Went {
+struct Turn {
     board: Board,
     line: Line,
     more: bool,
@@ -306,13 +306,13 @@ struct Went {
 }
 
 // The next piece of the input.
-fn turn(board: Board, line: Line, store: &mut [u32], out: &mut [u8]) -> Went
+fn turn(board: Board, line: Line, store: &mut [u32], out: &mut [u8]) -> Turn
     requires { ⌜ 49152 ≤ length (now out) ⌝ }
 {
     let mut piece = [0u8; 4096];
     let got = libc::read(0, &mut piece);
     if got <= 0 {
-        return Went {
+        return Turn {
             board: board,
             line: line,
             more: false,
@@ -325,7 +325,7 @@ fn turn(board: Board, line: Line, store: &mut [u32], out: &mut [u8]) -> Went
     let ok = io::write_all(1, &out[..m]);
     let next = f.board;
     let rest = f.line;
-    Went {
+    Turn {
         board: next,
         line: rest,
         more: ok,

@@ -6,7 +6,7 @@ ghost use Prim.Native.Nat.{ℕ};
 ghost use lib.Dec.{ltb};
 ghost use lib.ListN.{length};
 ghost use Rattle.bank.specs.Bursts.{span, readsIn};
-ghost use Rattle.model.specs.Bursts.{standing, trigger};
+ghost use Rattle.model.specs.Bursts.{burstAt, trigger};
 ghost use Rattle.model.specs.View.{tables};
 ghost use Rattle.effect.specs.Effects.{effectOf, verdict, number};
 ghost use Rattle.effect.specs.Seen.{Fronts, seen};
@@ -16,15 +16,15 @@ use bank::State;
 use effect::Effect;
 
 // Whether an output of `len` words has fewer than the burst has reads (`burst.output`).
-pub fn is_lacking(g: Regs, commands: &[u32; 16], len: usize) -> bool
+pub fn is_output_short(g: Regs, commands: &[u32; 16], len: usize) -> bool
     ensures { λ b. ⌜ b ≡ ltb len (readsIn (span g) (now (commands .entry))) ⌝ }
 {
     len < burst_commands::reads_in(commands, burst_commands::span_of(g))
 }
 
 // The control bits where the burst stands at command `n`, counted from 1; 0 closes it.
-pub fn stand(c: Control, n: u8) -> Control
-    ensures { λ r. ⌜ r ≡ standing n c ⌝ }
+pub fn burst_at(c: Control, n: u8) -> Control
+    ensures { λ r. ⌜ r ≡ burstAt n c ⌝ }
 {
     let mut next = c;
     next.burst = n;
@@ -39,7 +39,7 @@ fn trigger_number(st: State, commands: &[u32; 16], len: usize) -> u32
     let idle = phases::is_idle(p);
     let span = burst_commands::span_of(st.regs);
     let runs = burst_commands::all_carried(commands, span);
-    let n = bank::select(is_lacking(st.regs, commands, len), number::NO_ROOM, 0);
+    let n = bank::select(is_output_short(st.regs, commands, len), number::NO_ROOM, 0);
     let n = bank::select(!runs, number::NOT_CARRIED, n);
     let n = bank::select(span == 0, number::BURST_HAS_NO_COMMANDS, n);
     let n = bank::select(
@@ -59,10 +59,10 @@ pub fn trigger(st: State, flags: &[u8; 128], commands: &[u32; 16], len: usize) -
         return effect::refuse(st, n);
     }
     let w = commands[0];
-    let at = (w / 2 % 128) as usize;
+    let at = (w / 2 % 0x80) as usize;
     let p = start::private_phase(w, flags[at]);
     let g = st.regs;
-    let c = stand(st.control, 1);
+    let c = burst_at(st.control, 1);
     let o = effect::none();
     effect::done(st, 0, 0, g, c, p, o)
 }

@@ -5,7 +5,7 @@ ghost use mathlib.Core.Bool.{cond};
 ghost use Prim.Native.Nat.{_%_, _^_};
 ghost use lib.Dec.{eqb};
 ghost use Rattle.registers.specs.declared.Register.the-variants.{Scratch, IrqMask, Ops, IbiConfig, DevChar, OffloadCmd, OffloadSdo};
-ghost use Rattle.bank.specs.Bits.{weigh};
+ghost use Rattle.bank.specs.Bits.{wordIf};
 ghost use Rattle.bank.specs.Bursts.{bursting};
 ghost use Rattle.model.specs.View.{Tables};
 ghost use Rattle.model.specs.Decision.{keepAll, unchanged, _withNumber_, _withRegs_};
@@ -42,7 +42,7 @@ pub fn write_mask(st: State, x: u32) -> Effect
     ensures { λ e. ⌜ ((t : Tables) (f : Fronts) → effectOf e t ≡ verdict (λ v. write (row IrqMask) v x) (seen st t f)) ⌝ }
 {
     let mut g = st.regs;
-    g.mask = (x % 256) as u8;
+    g.mask = (x % 0x100) as u8;
     put_regs(st, g, 0)
 }
 
@@ -57,7 +57,7 @@ pub fn write_config(st: State, x: u32) -> Effect
 
 // The number of a write to OPS or an offload memory: 6 while a burst is open, which runs by these (`burst.holds`).
 fn burst_number(c: Control) -> u32
-    ensures { λ n. ⌜ n ≡ weigh (bursting c) 6 ⌝ }
+    ensures { λ n. ⌜ n ≡ wordIf (bursting c) 6 ⌝ }
 {
     bank::select(burst_commands::is_bursting(c), number::TRANSFER_OPEN, 0)
 }
@@ -66,7 +66,7 @@ fn burst_number(c: Control) -> u32
 fn ops_if(ops: u8, comes: bool, x: u32) -> u8
     ensures { λ r. ⌜ r ≡ cond comes (x % 2 ^ 7) ops ⌝ }
 {
-    let new = (x % 128) as u8;
+    let new = (x % 0x80) as u8;
     if comes { new } else { ops }
 }
 
@@ -85,13 +85,13 @@ pub fn write_device(st: State, x: u32) -> Effect
     ensures { λ e. ⌜ ((t : Tables) (f : Fronts) → effectOf e t ≡ verdict (λ v. write (row DevChar) v x) (seen st t f)) ⌝ }
 {
     let mut g = st.regs;
-    g.selected = (x / 512 % 128) as u8;
+    g.selected = (x / 0x200 % 0x80) as u8;
     let c = st.control;
     let p = st.phase;
     let o = effect::none();
     let t = effect::table_if(
-        x / 256 % 2 == 1,
-        Table::Flags(x / 512 % 128, (x / 2 % 8) as u8),
+        x / 0x100 % 2 == 1,
+        Table::Flags(x / 0x200 % 0x80, (x / 2 % 8) as u8),
     );
     effect::done_with(st, 0, 0, g, c, p, o, t)
 }

@@ -20,8 +20,8 @@ fn acknowledge(c: Control, x: u32) -> Control
 {
     let mut next = c;
     next.cmdrpending = !(x / 32 % 2 == 1) & c.cmdrpending;
-    next.ibipending = !(x / 64 % 2 == 1) & c.ibipending;
-    next.daapending = !(x / 128 % 2 == 1) & c.daapending;
+    next.ibipending = !(x / 0x40 % 2 == 1) & c.ibipending;
+    next.daapending = !(x / 0x80 % 2 == 1) & c.daapending;
     next
 }
 

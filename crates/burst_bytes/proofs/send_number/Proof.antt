@@ -11,8 +11,8 @@ is-writing-requires c κs = search needs
 byte-number-requires : tie.Need-byte-number-requires
 byte-number-requires c κs = search needs
 
-is-lacking-requires : tie.Need-is-lacking-requires
-is-lacking-requires c κs = search needs
+is-output-short-requires : tie.Need-is-output-short-requires
+is-output-short-requires c κs = search needs
 
 select-requires : tie.Need-select-requires
 select-requires c κs = search needs
@@ -24,9 +24,9 @@ returns c = λ a p o f h.
     let byte-number = lacks .before in
     let way = byte-number .before in
     let n = way .before in
-    rw (c .select .ensures, lacks .is-lacking .ensures, byte-number .byte-number .ensures, way .is-writing .ensures, short-is (n .args .st) a (n .args .commands .now) p o f (n .args .len) (n .pre) h)
+    rw (c .select .ensures, lacks .is-output-short .ensures, byte-number .byte-number .ensures, way .is-writing .ensures, short-is (n .args .st) a (n .args .commands .now) p o f (n .args .len) (n .pre) h)
 
 pub send-number-spec : {M : Type 1} → statement M
 send-number-spec =
     tie.close
-    (tie.spec is-writing-requires byte-number-requires is-lacking-requires select-requires returns)
+    (tie.spec is-writing-requires byte-number-requires is-output-short-requires select-requires returns)

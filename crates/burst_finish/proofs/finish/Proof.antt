@@ -71,8 +71,8 @@ next-phase-requires c κs = search needs
 after-requires : tie.Need-after-requires
 after-requires c κs = let a = c .before .before .before .before .before .before .before .before .before .before in burst-place (a .args .st) (a .args .commands .now) (a .pre .0) (a .pre .1) .0
 
-stand-requires : tie.Need-stand-requires
-stand-requires c κs = search needs
+burst-at-requires : tie.Need-stand-requires
+burst-at-requires c κs = search needs
 
 none-requires : tie.Need-none-requires
 none-requires c κs = search needs
@@ -91,7 +91,7 @@ returns-2 c = λ p o f h. let r = c .before .before .before .before .before .bef
     let st = a .args .st in
     let ws = a .args .commands .now in
     let t = tables (a .args .flags .now) ws p o in
-    rw (c .done-with .ensures t, c .before .table-if .ensures t, c .before .before .none .ensures, c .before .before .before .stand .ensures, c .before .before .before .before .after .ensures, c .before .before .before .before .before .before .next-phase .ensures, c .before .before .before .before .before .before .before .before .span-of .ensures .0, r .reads-in .ensures .0, r .before .before .is-reading .ensures, r .before .before .before .transfer-of .ensures, output-if (reading (st .phase)) (readsIn (place (st .control)) ws) (transfer (st .phase) .part) t)
+    rw (c .done-with .ensures t, c .before .table-if .ensures t, c .before .before .none .ensures, c .before .before .before .burst-at .ensures, c .before .before .before .before .after .ensures, c .before .before .before .before .before .before .next-phase .ensures, c .before .before .before .before .before .before .before .before .span-of .ensures .0, r .reads-in .ensures .0, r .before .before .is-reading .ensures, r .before .before .before .transfer-of .ensures, output-if (reading (st .phase)) (readsIn (place (st .control)) ws) (transfer (st .phase) .part) t)
     (served-as (λ v. outputFirst v (burstFinish v (a .args .code))) (seen st t f) refl (sym (i .before .finish-number .ensures (a .args .flags .now) p o f h) ∙ i .if1 .left))
 
 pub finish-spec : {M : Type 1} → statement M
@@ -112,7 +112,7 @@ finish-spec =
     element-copy-out-w
     next-phase-requires
     after-requires
-    stand-requires
+    burst-at-requires
     none-requires
     table-if-requires
     done-with-requires

@@ -17,8 +17,8 @@ select-requires c κs = search needs
 while-open-requires : tie.Need-while-open-requires
 while-open-requires c κs = search needs
 
-is-lacking-requires : tie.Need-is-lacking-requires
-is-lacking-requires c κs = search needs
+is-output-short-requires : tie.Need-is-output-short-requires
+is-output-short-requires c κs = search needs
 
 select-requires-2 : tie.Need-select-requires-2
 select-requires-2 c κs = search needs
@@ -26,7 +26,7 @@ select-requires-2 c κs = search needs
 returns : tie.Need-returns
 unfolding burstFinish
 returns c = λ a p o f h. let n = c .before .before .before .before .before .before in
-    rw (c .select2 .ensures, c .before .is-lacking .ensures, c .before .before .while-open .ensures, c .before .before .before .select .ensures, c .before .before .before .before .is-allowed .ensures, c .before .before .before .before .before .is-idle .ensures, short-is (n .args .st) a (n .args .commands .now) p o f (n .args .len) (n .pre) h)
+    rw (c .select2 .ensures, c .before .is-output-short .ensures, c .before .before .while-open .ensures, c .before .before .before .select .ensures, c .before .before .before .before .is-allowed .ensures, c .before .before .before .before .before .is-idle .ensures, short-is (n .args .st) a (n .args .commands .now) p o f (n .args .len) (n .pre) h)
 
 pub finish-number-spec : {M : Type 1} → statement M
 finish-number-spec =
@@ -36,6 +36,6 @@ finish-number-spec =
     is-allowed-requires
     select-requires
     while-open-requires
-    is-lacking-requires
+    is-output-short-requires
     select-requires-2
     returns)

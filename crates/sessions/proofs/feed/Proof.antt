@@ -5,7 +5,7 @@ use mathlib.Core.Path.{_≡_, refl}
 use mathlib.Core.List.{[]}
 use lib.ListN.{length, take}
 use Rattle.answer.specs.Given.{controller}
-use Rattle.sessions.specs.Session.{session, fed}
+use Rattle.sessions.specs.Session.{session, sessionFed}
 use Rattle.sessions.proofs.Cutting.{fed-byte, fed-newline, fed-all}
 use Rattle.sessions.proofs.feed.Statement.{statement}
 use Rattle.sessions.proofs.feed.Tie as tie
@@ -14,13 +14,13 @@ abbrev Inv-loop : tie.InvT-loop
 Inv-loop store₀ output₀ piece out₀ bank₀ reading₀ count₀ i₀ i-end store output out bank reading count i =
     (i ≤ i-end) × (i-end < 18446744073709551616) × (i-end ≡ length piece) × (count ≤ 12 * i)
     × (12 * length piece ≤ length out) × (length out ≡ length out₀) × (length store ≡ length store₀) × (length output ≡ length output₀)
-    × (session (controller bank store output) reading (take count out) ≡ fed (session (controller bank₀ store₀ output₀) reading₀ []) (take i piece))
+    × (session (controller bank store output) reading (take count out) ≡ sessionFed (session (controller bank₀ store₀ output₀) reading₀ []) (take i piece))
 
 abbrev μ-loop : tie.MeasureT-loop
 μ-loop store₀ output₀ piece out₀ bank₀ reading₀ count₀ i₀ i-end store output out bank reading count i = i-end - i
 
 loop-holds : tie.Need-loop-holds Inv-loop μ-loop
-unfolding fed
+unfolding sessionFed
 loop-holds c = (search needs, search needs, refl, search needs, search needs, refl, refl, refl, refl)
 
 shared-slice-read-byte : tie.Need-shared-slice-read-byte Inv-loop μ-loop

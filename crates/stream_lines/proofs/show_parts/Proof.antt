@@ -8,9 +8,9 @@ use borrow.Author.Needs.{needs}
 use Rattle.model.specs.View.{tables}
 use Rattle.answer.specs.Given.{bankWith, controller}
 use Rattle.faults.specs.Faults.{faultNumber}
-use Rattle.record_model.specs.Record.{each}
+use Rattle.record_model.specs.Record.{eachRecord}
 use Rattle.record_model.proofs.Each.{starts}
-use Rattle.stream_model.specs.Stream.{printed, said, met}
+use Rattle.stream_model.specs.Stream.{recordsPrinted, said, met}
 use Rattle.stream_lines.proofs.Turns.{store-kept, output-kept, fault-kept, line-done, line-wrong, lines-done}
 use Rattle.stream_lines.proofs.show_parts.Statement.{statement}
 use Rattle.stream_lines.proofs.show_parts.Tie as tie
@@ -20,8 +20,8 @@ Inv-loop flags₀ commands₀ payloads₀ store₀ output₀ fault records n out
     (i ≤ n) × (12 * n < 18446744073709551616) × (12 * n ≤ length records) × (length store ≡ length store₀) × (length output ≡ length output₀)
     × (fault ≡ faultNumber (bankWith s h (tables flags commands payloads output)) (length store))
     × (12 * n ≤ length out) × (length out ≡ length out₀)
-    × (each said met (n - i) records i (printed (controller (bankWith s h (tables flags commands payloads output)) store output) (take (12 * i) out) false)
-    ≡ each said met n records 0 (printed (controller (bankWith s₀ h₀ (tables flags₀ commands₀ payloads₀ output₀)) store₀ output₀) [] false))
+    × (eachRecord said met (n - i) records i (recordsPrinted (controller (bankWith s h (tables flags commands payloads output)) store output) (take (12 * i) out) false)
+    ≡ eachRecord said met n records 0 (recordsPrinted (controller (bankWith s₀ h₀ (tables flags₀ commands₀ payloads₀ output₀)) store₀ output₀) [] false))
 
 abbrev μ-loop : tie.MeasureT-loop
 μ-loop flags₀ commands₀ payloads₀ store₀ output₀ fault records n out₀ s₀ h₀ i₀ flags commands payloads store output out s h i = n - i

@@ -44,14 +44,14 @@ use Rattle.walks.proofs.Statements.{relends, gets, packs}
 use Rattle.walks.proofs.Leaves.{freed, local, none}
 use Rattle.bank.specs.declared.Bank.{Bank}
 use Rattle.answer.specs.Given.{controller}
-use Rattle.playback_model.specs.declared.Told.{Told}
+use Rattle.playback_model.specs.declared.Report.{Report}
 use Rattle.replayed.specs.declared.Replayed.{Replayed}
 use Rattle.playback_model.specs.Replay.{replayOf}
 use Rattle.replayed.specs.Given.{replayedPlace}
 use Rattle.bank.proofs.Bank as B
 use Rattle.bank.proofs.Bank.Laws as B′
-use Rattle.playback_model.proofs.Told as N
-use Rattle.playback_model.proofs.Told.Laws as N′
+use Rattle.playback_model.proofs.Report as N
+use Rattle.playback_model.proofs.Report.Laws as N′
 use Rattle.replayed.proofs.Replayed as O
 use Rattle.replayed.proofs.Replayed.Laws as O′
 use Rattle.playback.proofs.replay_in_place as ran
@@ -73,7 +73,7 @@ bank-val h = LL.val B.the-type B′.the-laws h
 abbrev out-val : Replayed → Val
 out-val r = LL.val O.the-type O′.the-laws r
 
-abbrev out : Bank → Told → Replayed
+abbrev out : Bank → Report → Replayed
 out z r = record { bank = z; told = r }
 
 -- the contract that the proof cites
@@ -81,7 +81,7 @@ abbrev Ran : {M : Type 1} (𝓤 : URA M) (H : Heap 𝓤) (A : Atoms 𝓤) (mem :
 Ran 𝓤 H A mem run = tripleOf 𝓤 H A ran.signature (ran.spec 𝓤 H A mem run)
 
 -- what a `Replayed` of the two parts is related to
-both : (z : Bank) (r : Told) (w : Val) → Is B.the-row z (bank-val z ∷ []) → Is N.the-row r (w ∷ []) → Is O.the-row (out z r) (out-val (out z r) ∷ [])
+both : (z : Bank) (r : Report) (w : Val) → Is B.the-row z (bank-val z ∷ []) → Is N.the-row r (w ∷ []) → Is O.the-row (out z r) (out-val (out z r) ∷ [])
 both z r w g is = LL.owes O.the-type O′.the-laws (out z r) (g, (LL.owes N.the-type N′.the-laws r (LL.owed N.the-type N′.the-laws r _ is), tt))
 
 module _ {M : Type 1} (𝓤 : URA M) (H : Heap 𝓤) (A : Atoms 𝓤) (W : Given 𝓤 H A) (at-mem : Memory → SProp 𝓤) (run : Routine → Fun 𝓤) (κ κ′ : Lft) (q q′ : Share) (h : Bank) (g : Is B.the-row h (bank-val h ∷ [])) (b′ o′ : ℕ) (γ′ : GName) (ys : List ℕ) (room : Room u32 (length ys)) (b″ o″ : ℕ) (γ″ : GName) (ts : List ℕ) (room″ : Room u8 (length ts)) (i : ℕ) (i-fits : i < 2 ^ 32) (n : ℕ) (n-fits : n < 2 ^ 64) where
@@ -121,7 +121,7 @@ module _ {M : Type 1} (𝓤 : URA M) (H : Heap 𝓤) (A : Atoms 𝓤) (W : Given
   abbrev to-ran : ℕ → ℕ → GName → Ran 𝓤 H A at-mem run .Ghost
   to-ran ν l δ = (((ν ∷ [], (κ, (κ′, tt))), (fullShare, (q, (q′, tt))), tt, (loan l δ, (x, (y, (i, (n, tt))))), (vptr l 0 ∷ [], (s ∷ [], (s″ ∷ [], (vint w32 i ∷ [], (vint w64 n ∷ [], tt)))))), tt)
 
-  abbrev Said : Told → Bank → List ℕ → Type 0
+  abbrev Said : Report → Bank → List ℕ → Type 0
   Said r z zs = replayedPlace z r zs ≡ replayOf ts i n (controller h ys [])
 
   goes-ran : (ν l : ℕ) (δ : GName) → ent 𝓤 (⋆ 𝓤 H A ((‵ (flft (ν ∷ []) fullShare) ⊛ (‵ (flft κ q) ⊛ (‵ (flft κ′ q′) ⊛ ‵ ftrue))) ∷ ‵ (MutRef (named 0) (ν ∷ []) B.the-row .own (loan l δ) (vptr l 0 ∷ [])) ∷ (‵ (MutSlice (named 1) κ u32 .own x (s ∷ [])) ⊛ ‵ Own) ∷ [])) (Ran 𝓤 H A at-mem run .pre (to-ran ν l δ))
@@ -129,7 +129,7 @@ module _ {M : Type 1} (𝓤 : URA M) (H : Heap 𝓤) (A : Atoms 𝓤) (W : Given
       qed W ((‵ (flft (ν ∷ []) fullShare) ⊛ (‵ (flft κ q) ⊛ (‵ (flft κ′ q′) ⊛ ‵ ftrue))) ∷ ‵ (MutRef (named 0) (ν ∷ []) B.the-row .own (loan l δ) (vptr l 0 ∷ [])) ∷ (‵ (MutSlice (named 1) κ u32 .own x (s ∷ [])) ⊛ ‵ Own) ∷ []) ∵
       move ! (2 ∷ []) $ split ! $ nothing ! $ owned ! usize (Is usize) (uint-makes 𝓤 H A W w64) n _ (refl, n-fits) $ fjoin ! $ owned ! u32 (Is u32) (uint-makes 𝓤 H A W w32) i _ (refl, i-fits) $ fjoin ! $ move ! (2 ∷ 0 ∷ []) $ fjoin ! $ move ! (1 ∷ 0 ∷ []) $ fjoin ! $ move ! (2 ∷ 0 ∷ []) $ fjoin ! $ move ! (1 ∷ 0 ∷ []) $ join ! $ frame ! $ done !
 
-  exits : (r : Told) (w : Val) (z : Bank) (zs : List ℕ) → Said r z zs → length zs ≡ length ys → Is B.the-row z (bank-val z ∷ []) → Is N.the-row r (w ∷ [])
+  exits : (r : Report) (w : Val) (z : Bank) (zs : List ℕ) → Said r z zs → length zs ≡ length ys → Is B.the-row z (bank-val z ∷ []) → Is N.the-row r (w ∷ [])
       → ent 𝓤 (⋆ 𝓤 H A ((‵ (flft κ q) ⊛ (‵ (flft κ′ q′) ⊛ ‵ ftrue)) ∷ ‵ (finally u32 γ′ zs) ∷ ‵ Own ∷ [])) (Post (out-val (out z r)))
   exits r w z zs e l gz is =
       qed W ((‵ (flft κ q) ⊛ (‵ (flft κ′ q′) ⊛ ‵ ftrue)) ∷ ‵ (finally u32 γ′ zs) ∷ ‵ Own ∷ []) ∵
@@ -160,7 +160,7 @@ module _ {M : Type 1} (𝓤 : URA M) (H : Heap 𝓤) (A : Atoms 𝓤) (W : Given
         -- [what the call asks; the file's `&`; what the numbers own; the lender's part (3); _11 (4); …; _10 (6); …; _9 (8); …; _8 (10); …;
         --  _7 (12); …; … (14); _5 (15); …; _4 (17); …; _3 (19); …; _2 (21); …; _1 (23); …; _0 (25); …]
         calls-at ! fm (Ran 𝓤 H A at-mem run) known (to-ran ν l₆ δ) (and-then ! (load ! (from ! (stop !)) (look ! 10 refl)) (and-then ! (load ! (from ! (stop !)) (look ! 6 refl)) (and-then ! (load ! (from ! (stop !)) (look ! 19 refl)) (and-then ! (load ! (from ! (stop !)) (look ! 17 refl)) (and-then ! (load ! (from ! (stop !)) (look ! 15 refl)) (no-more !)))))) (λ w.
-        use1 W (later (some (λ (r : Told). ((‵ (flft (ν ∷ []) fullShare) ⊛ (‵ (flft κ q) ⊛ (‵ (flft κ′ q′) ⊛ ‵ ftrue))) ⊛ ‵ (N.the-row .own r (w ∷ []))) ⊛ raw (ensured 𝓤 H A ran.ended (ran.clauses 𝓤 H A at-mem run) (ν ∷ [], (κ, (κ′, tt))) (loan l₆ δ, (x, (y, (i, (n, tt))))) tt r)))) (id⊢ 𝓤 _) $ await ! tt $ pick ! (λ r.
+        use1 W (later (some (λ (r : Report). ((‵ (flft (ν ∷ []) fullShare) ⊛ (‵ (flft κ q) ⊛ (‵ (flft κ′ q′) ⊛ ‵ ftrue))) ⊛ ‵ (N.the-row .own r (w ∷ []))) ⊛ raw (ensured 𝓤 H A ran.ended (ran.clauses 𝓤 H A at-mem run) (ν ∷ [], (κ, (κ′, tt))) (loan l₆ δ, (x, (y, (i, (n, tt))))) tt r)))) (id⊢ 𝓤 _) $ await ! tt $ pick ! (λ r.
         split ! $ move ! (1 ∷ []) $ use1 W (some (λ (zs : Bank × (List ℕ × (Unit {0} × (Unit {0} × (Unit {0} × Unit {0}))))). ‵ (lasts ran.ended (ν ∷ [], (κ, (κ′, tt))) (loan l₆ δ, (x, (y, (i, (n, tt))))) zs) ⊛ raw (fact 𝓤 (Said r (zs .0) (zs .1 .0))))) (id⊢ 𝓤 _) $ pick ! (λ zs.
         split ! $ move ! (1 ∷ []) $ heard ! (Said r (zs .0) (zs .1 .0)) (λ e. fsplit ! $ move ! (1 ∷ []) $ fsplit ! $ fsplit ! $ move ! (1 ∷ []) $ feqL ! (λ l.
         move ! (3 ∷ []) $ split ! $ move ! (1 ∷ []) $ gets ! N.the-type N′.the-laws 15 r refl refl (λ is.

@@ -2,14 +2,14 @@
 use borrow.Author.Needs.{needs}
 use Prim.Native.Nat.{_+_, _-_, _*_, _≤_}
 use mathlib.Core.Path.{_≡_, refl}
-use Rattle.trace_model.specs.Format.{records, placeOf, startsRight}
+use Rattle.trace_model.specs.Format.{records, sectionPlace, startsRight}
 use Rattle.trace_model.proofs.Table.{starts-turn, place-turn}
 use Rattle.trace_table.proofs.Tests.{all-start, last-ends}
 use Rattle.trace_table.proofs.walk.Statement.{statement}
 use Rattle.trace_table.proofs.walk.Tie as tie
 
 abbrev Inv-loop : tie.InvT-loop
-Inv-loop file n right₀ at₀ i₀ right at i = (i ≤ n) × (right ≡ startsRight file i) × (at ≡ placeOf file i) × (at ≤ 518 + 51539607552 * i)
+Inv-loop file n right₀ at₀ i₀ right at i = (i ≤ n) × (right ≡ startsRight file i) × (at ≡ sectionPlace file i) × (at ≤ 518 + 51539607552 * i)
 
 abbrev μ-loop : tie.MeasureT-loop
 μ-loop file n right₀ at₀ i₀ right at i = n - i

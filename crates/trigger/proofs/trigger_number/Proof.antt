@@ -13,8 +13,8 @@ span-of-requires c κs = search needs
 all-carried-requires : tie.Need-all-carried-requires
 all-carried-requires c κs = search needs
 
-is-lacking-requires : tie.Need-is-lacking-requires
-is-lacking-requires c κs = search needs
+is-output-short-requires : tie.Need-is-output-short-requires
+is-output-short-requires c κs = search needs
 
 select-requires : tie.Need-select-requires
 select-requires c κs = search needs
@@ -37,7 +37,7 @@ while-idle-requires c κs = search needs
 returns : tie.Need-returns
 unfolding trigger
 returns c = λ a p o f h. let l = c .before .before .before .before .before .before in
-    rw (c .while-idle .ensures, c .before .select4 .ensures, c .before .before .is-offload .ensures, c .before .before .before .select3 .ensures, c .before .before .before .before .select2 .ensures, c .before .before .before .before .before .select .ensures, l .is-lacking .ensures, l .before .all-carried .ensures, l .before .before .span-of .ensures .0, l .before .before .before .is-idle .ensures, h)
+    rw (c .while-idle .ensures, c .before .select4 .ensures, c .before .before .is-offload .ensures, c .before .before .before .select3 .ensures, c .before .before .before .before .select2 .ensures, c .before .before .before .before .before .select .ensures, l .is-output-short .ensures, l .before .all-carried .ensures, l .before .before .span-of .ensures .0, l .before .before .before .is-idle .ensures, h)
 
 pub trigger-number-spec : {M : Type 1} → statement M
 trigger-number-spec =
@@ -46,7 +46,7 @@ trigger-number-spec =
     is-idle-requires
     span-of-requires
     all-carried-requires
-    is-lacking-requires
+    is-output-short-requires
     select-requires
     select-requires-2
     select-requires-3

@@ -5,7 +5,7 @@
     spent.py --write DOCUMENT TABLE       puts a table into a document, in place of the one that it has
     spent.py --check DOCUMENT             the document's table has every crate of crates.txt, with its number of edits
 
-Seconds are those of rt, with both cores in use, each crate over proved ones. Exit status 1 where a check fails.
+Seconds are those of rt, as .ci/run runs it: four at a time, so some twice those of a check by itself. Exit status 1 where a check fails.
 """
 
 import pathlib

@@ -47,8 +47,8 @@ impl fmt::Display for Unusable {
             Unusable::Unreadable { what, error } => write!(f, "can't read the {what}: {error}"),
             Unusable::MalformedAnswer { line } => write!(
                 f,
-                "answers, line {line}: not eight lower-case hex digits, a space and two \
-                 decimal digits"
+                "answers, line {line}: no answer, which is a value of eight small hex digits, one \
+                 blank and a number of two decimal digits"
             ),
             Unusable::WrongCount { calls, answers } => {
                 write!(

@@ -45,10 +45,10 @@ sources m s =
     + wordIf (ltb (w .cmdr .0) (q .cmdr .level) && bit 1 m) 2
     + wordIf (ltb (q .sdo .level) (w .sdo .0) && bit 2 m) 4
     + wordIf (ltb (w .sdi .0) (q .sdi .level) && bit 3 m) 8
-    + wordIf (ltb (w .ibi .0) (q .ibi .level) && bit 4 m) 16
-    + wordIf (c .cmdrpending && bit 5 m) 32
-    + wordIf (c .ibipending && bit 6 m) 64
-    + wordIf (c .daapending && bit 7 m) 128
+    + wordIf (ltb (w .ibi .0) (q .ibi .level) && bit 4 m) 0x10
+    + wordIf (c .cmdrpending && bit 5 m) 0x20
+    + wordIf (c .ibipending && bit 6 m) 0x40
+    + wordIf (c .daapending && bit 7 m) 0x80
 
 -- `status.read`: a bit for each queue that the driver reads, set where it is empty
 abbrev pub status : View → ℕ
@@ -87,7 +87,7 @@ row Unmapped = absent
 abbrev pub shown : Cell → View → ℕ
 shown scratch s = s .regs .scratch
 shown mask s = s .regs .mask
-shown ops s = wordIf (idle (s .phase)) 128 + s .regs .ops
+shown ops s = wordIf (idle (s .phase)) 0x80 + s .regs .ops
 shown ibiConfig s = 0
 shown devChar s = s .regs .selected * 2 ^ 9 + device (s .regs .selected) s * 2
 shown (offloadCmd i) s = getD (s .tables .commands) i 0

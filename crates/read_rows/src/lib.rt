@@ -25,16 +25,16 @@ pub fn word_if(test: bool, w: u32) -> u32
 
 // The source bits that the mask has. Over plain bools: a proof about the sum need not look into a state.
 fn source_bits(m: u8, a: bool, b: bool, c: bool, d: bool, e: bool, f: bool, g: bool, h: bool) -> u32
-    ensures { λ r. ⌜ r ≡ wordIf (a && bit 0 m) 1 + wordIf (b && bit 1 m) 2 + wordIf (c && bit 2 m) 4 + wordIf (d && bit 3 m) 8 + wordIf (e && bit 4 m) 16 + wordIf (f && bit 5 m) 32 + wordIf (g && bit 6 m) 64 + wordIf (h && bit 7 m) 128 ⌝ }
+    ensures { λ r. ⌜ r ≡ wordIf (a && bit 0 m) 1 + wordIf (b && bit 1 m) 2 + wordIf (c && bit 2 m) 4 + wordIf (d && bit 3 m) 8 + wordIf (e && bit 4 m) 0x10 + wordIf (f && bit 5 m) 0x20 + wordIf (g && bit 6 m) 0x40 + wordIf (h && bit 7 m) 0x80 ⌝ }
 {
     word_if(a & bank::byte_low_bit(m), 1)
         + word_if(b & (m / 2 % 2 == 1), 2)
         + word_if(c & (m / 4 % 2 == 1), 4)
         + word_if(d & (m / 8 % 2 == 1), 8)
-        + word_if(e & (m / 16 % 2 == 1), 16)
-        + word_if(f & (m / 32 % 2 == 1), 32)
-        + word_if(g & (m / 0x40 % 2 == 1), 64)
-        + word_if(h & (m / 0x80 % 2 == 1), 128)
+        + word_if(e & (m / 0x10 % 2 == 1), 0x10)
+        + word_if(f & (m / 0x20 % 2 == 1), 0x20)
+        + word_if(g & (m / 0x40 % 2 == 1), 0x40)
+        + word_if(h & (m / 0x80 % 2 == 1), 0x80)
 }
 
 // The interrupt sources that the mask has: all for IRQ_SOURCE (`source.read`), those of IRQ_MASK for IRQ_PENDING
@@ -74,9 +74,9 @@ pub fn wide(x: u8) -> u32
 
 // OPS, with its bit 7 (`ops.keeps`).
 pub fn ops_word(idle: bool, ops: u8) -> u32
-    ensures { λ r. ⌜ r ≡ wordIf idle 128 + ops ⌝ }
+    ensures { λ r. ⌜ r ≡ wordIf idle 0x80 + ops ⌝ }
 {
-    word_if(idle, 128) + wide(ops)
+    word_if(idle, 0x80) + wide(ops)
 }
 
 // The flags of a device, or 0 past the last address.

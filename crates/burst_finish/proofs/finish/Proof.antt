@@ -71,7 +71,7 @@ next-phase-requires c κs = search needs
 after-requires : tie.Need-after-requires
 after-requires c κs = let a = c .before .before .before .before .before .before .before .before .before .before in burst-place (a .args .st) (a .args .commands .now) (a .pre .0) (a .pre .1) .0
 
-burst-at-requires : tie.Need-stand-requires
+burst-at-requires : tie.Need-burst-at-requires
 burst-at-requires c κs = search needs
 
 none-requires : tie.Need-none-requires
@@ -85,14 +85,25 @@ done-with-requires c κs = search needs
 
 returns-2 : tie.Need-returns-2
 unfolding burstFinish
-returns-2 c = λ p o f h. let r = c .before .before .before .before .before .before .before .before .before in
-    let i = c .before .before .before .before .before .before .before .before .before .before .before .before .before in
-    let a = c .before .before .before .before .before .before .before .before .before .before .before .before .before .before .before in
+returns-2 c = λ p o f h.
+    let table = c .before in
+    let none = table .before in
+    let control = none .before in
+    let place-after = control .before in
+    let phase = place-after .before .before in
+    let span-of = phase .before .before in
+    let reads = span-of .before in
+    let way = reads .before .before in
+    let open = way .before in
+    let tested = open .before in
+    let number-of = tested .before in
+    let a = number-of .before in
     let st = a .args .st in
     let ws = a .args .commands .now in
     let t = tables (a .args .flags .now) ws p o in
-    rw (c .done-with .ensures t, c .before .table-if .ensures t, c .before .before .none .ensures, c .before .before .before .burst-at .ensures, c .before .before .before .before .after .ensures, c .before .before .before .before .before .before .next-phase .ensures, c .before .before .before .before .before .before .before .before .span-of .ensures .0, r .reads-in .ensures .0, r .before .before .is-reading .ensures, r .before .before .before .transfer-of .ensures, output-if (reading (st .phase)) (readsIn (place (st .control)) ws) (transfer (st .phase) .part) t)
-    (served-as (λ v. outputFirst v (burstFinish v (a .args .code))) (seen st t f) refl (sym (i .before .finish-number .ensures (a .args .flags .now) p o f h) ∙ i .if1 .left))
+    rw (c .done-with .ensures t, table .table-if .ensures t, none .none .ensures, control .burst-at .ensures, place-after .after .ensures, phase .next-phase .ensures, span-of .span-of .ensures .0, reads .reads-in .ensures .0, way .is-reading .ensures, open .transfer-of .ensures)
+    (rw (output-if (reading (st .phase)) (readsIn (place (st .control)) ws) (transfer (st .phase) .part) t)
+    (served-as (λ v. outputFirst v (burstFinish v (a .args .code))) (seen st t f) refl (sym (number-of .finish-number .ensures (a .args .flags .now) p o f h) ∙ tested .if1 .left)))
 
 pub finish-spec : {M : Type 1} → statement M
 finish-spec =

@@ -31,7 +31,7 @@ element-copy-out-private-phase c = search needs
 private-phase-requires : tie.Need-private-phase-requires
 private-phase-requires c κs = search needs
 
-burst-at-requires : tie.Need-stand-requires
+burst-at-requires : tie.Need-burst-at-requires
 burst-at-requires c κs = search needs
 
 none-requires : tie.Need-none-requires

@@ -45,14 +45,14 @@ enum thymewax_number {
     THYMEWAX_DONE = 0,
     THYMEWAX_DROPPED_FULL = 1,             /* the word was dropped: CMD or SDO is full */
     THYMEWAX_DROPPED_READ_ONLY = 2,        /* the write was dropped: the register is read-only */
-    THYMEWAX_EMPTY = 3,                    /* a read of an empty CMDR, SDI or IBI */
+    THYMEWAX_EMPTY = 3,                    /* the queue that was read is empty */
     THYMEWAX_NO_REGISTER = 4,              /* the offset is outside the map, or no multiple of 4 */
     THYMEWAX_HELD_IN_RESET = 5,            /* a CMD or SDO write or a bus event while ENABLE is 1 */
     THYMEWAX_TRANSFER_OPEN = 6,            /* finish the transfer or the burst first */
     THYMEWAX_NO_TRANSFER = 7,              /* start or trigger first */
     THYMEWAX_NOT_IN_THIS_MODE = 8,         /* a start in offload mode, a trigger in direct mode */
     THYMEWAX_NO_COMMAND = 9,               /* no whole command waits in CMD */
-    THYMEWAX_NOT_THIS_KIND = 10,           /* not for this kind of transfer, or not at this moment */
+    THYMEWAX_NOT_THIS_KIND = 10,           /* not with this transfer, or not now */
     THYMEWAX_LENGTH_REACHED = 11,          /* as many bytes moved as the command says */
     THYMEWAX_SDO_EMPTY = 12,               /* the next word, or the address word, is not there */
     THYMEWAX_NO_ROOM = 13,                 /* in the receiving queue, or in the output of a burst */

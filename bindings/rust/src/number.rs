@@ -24,14 +24,14 @@ const MEANINGS: [&str; 30] = [
     "done",
     "a word written to a full CMD or SDO was dropped",
     "a write to a read-only register was dropped",
-    "a read of an empty CMDR, SDI or IBI",
+    "the queue that was read is empty",
     "no register there",
     "held in reset",
     "a transfer is open",
     "no transfer is open",
     "not in this mode",
     "no whole command waits",
-    "not for this kind of transfer or moment",
+    "not with this transfer, or not now",
     "commanded length reached",
     "SDO is empty",
     "no room in the receiving queue or in the output",
@@ -60,7 +60,7 @@ impl Number {
     pub const DROPPED_FULL: Number = Number(1);
     /// 2: a write to a read-only register was dropped.
     pub const DROPPED_READ_ONLY: Number = Number(2);
-    /// 3: a read of an empty CMDR, SDI or IBI.
+    /// 3: the queue that was read is empty.
     pub const EMPTY: Number = Number(3);
     /// 4: no register there.
     pub const NO_REGISTER: Number = Number(4);
@@ -74,7 +74,7 @@ impl Number {
     pub const NOT_IN_THIS_MODE: Number = Number(8);
     /// 9: no whole command waits.
     pub const NO_COMMAND: Number = Number(9);
-    /// 10: not for this kind of transfer or moment.
+    /// 10: not with this transfer, or not now.
     pub const NOT_THIS_KIND: Number = Number(10);
     /// 11: commanded length reached.
     pub const LENGTH_REACHED: Number = Number(11);

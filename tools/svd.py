@@ -4,7 +4,7 @@
     tools/svd.py > docs/registers.svd
 
 Offsets, and which registers there are, come from crates/registers/specs/Map.antt (named, offload,
-within); what a read and a write of each do from crates/model/specs/Registers.antt (row, shown).
+inMemory); what a read and a write of each do from crates/model/specs/Registers.antt (row, shown).
 TABLE has what these do not say: names, bits, words for people, first values. A register of the map
 that TABLE lacks, or the other way round, is an error. Exit status 0, or 1 with a message and no
 output, 2 for wrong arguments or output that cannot be written.
@@ -229,14 +229,14 @@ def named_registers(text):
 
 
 def memories(text):
-    """The memories of `offload`, each as long as `within` says."""
+    """The memories of `offload`, each as long as `inMemory` says."""
     last = definition(
-        text, r'^within base o = leb base o && leb o \(base \+ (0x[0-9a-f]+)\) && eqb \(o % 4\) 0$',
-        'definition of within')
+        text, r'^inMemory base o = leb base o && leb o \(base \+ (0x[0-9a-f]+)\) && eqb \(o % 4\) 0$',
+        'definition of inMemory')
     count = int(last, 16) // WORD_BYTES + 1
     line = definition(text, r'^offload o = (.*)$', 'definition of offload')
-    found = re.findall(r'cond \(within (0x[0-9a-f]+) o\) \((\w+) \(\(o - \1\) / 4\)\)', line)
-    if not found or line.count('within') != len(found):
+    found = re.findall(r'cond \(inMemory (0x[0-9a-f]+) o\) \((\w+) \(\(o - \1\) / 4\)\)', line)
+    if not found or line.count('inMemory') != len(found):
         raise Wrong('offload: a memory that is not as expected')
     return [Mapped(key, int(base, 16), count) for base, key in found]
 

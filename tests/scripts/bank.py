@@ -5,11 +5,10 @@ The generator guesses a bank by its own calls, the coverage follows one by the a
 the fields of words are those of the Python package.
 """
 
-from thymewax import OFFLOAD_CMD, OFFLOAD_SDO, Ccc, Command, Device, Ops, Register
-from thymewax.formats import ENTDAA
-
 from tests.scripts.endings import (ALL_MOVED, ENDINGS, NO_BYTES, NO_REQUEST, NONE_MOVED,
                                    PART_MOVED, kind_name)
+from thymewax import OFFLOAD_CMD, OFFLOAD_SDO, Ccc, Command, Device, Ops, Register
+from thymewax.formats import ENTDAA
 
 OFFLOAD = [*OFFLOAD_CMD, *OFFLOAD_SDO]
 MAPPED = [*Register, *OFFLOAD]

@@ -1,12 +1,11 @@
 """Steps and scenarios of ENTDAA: address requests, address words of either parity, takes."""
 
-from thymewax import AddressWord, Irq, Register
-
 from tests.scripts.bank import SDI
 from tests.scripts.endings import CE2, NO_ERROR
 from tests.scripts.generator.endings import Endings
 from tests.scripts.generator.moves import SMALL
 from tests.scripts.generator.registers import Registers
+from thymewax import AddressWord, Irq, Register
 
 
 class Addresses(Endings, Registers):

@@ -1,8 +1,6 @@
 """Scenarios of offload bursts: refused triggers, each length, each ending, short outputs, locked
 registers, full queues, resets."""
 
-from thymewax import OFFLOAD_CMD, Command, Irq, Register
-
 from tests.scripts.bank import (BURST_LENGTH, CARRIED_LENGTH, CMDR, DEVICES, OFFLOAD, OUTPUT_WORDS,
                                 SDI, SDO)
 from tests.scripts.endings import CODES, NO_ERROR, UNKNOWN
@@ -10,6 +8,7 @@ from tests.scripts.generator.bursts import Bursts
 from tests.scripts.generator.endings import Endings
 from tests.scripts.generator.moves import (ABLE, ADDRESSES, ATTACHED, DETACHED, PRIVATE_KINDS,
                                            SMALL)
+from thymewax import OFFLOAD_CMD, Command, Irq, Register
 
 
 class BurstCases(Bursts, Endings):

@@ -1,9 +1,8 @@
 """Steps of offload bursts: offload words, an output, the trigger."""
 
-from thymewax import OFFLOAD_CMD, OFFLOAD_SDO, Ops, Register
-
 from tests.scripts.bank import CARRIED_LENGTH, LONGEST, OFFLOAD, OUTPUT_WORDS, carried
 from tests.scripts.generator.moves import ADDRESSES, CCC_KINDS, EVEN, PRIVATE_KINDS, Moves
+from thymewax import OFFLOAD_CMD, OFFLOAD_SDO, Ops, Register
 
 
 class Bursts(Moves):

@@ -1,12 +1,11 @@
 """Endings: each kind of transfer with each count of bytes and each code."""
 
-from thymewax import Register
-
 from tests.scripts.bank import CMDR
 from tests.scripts.endings import (ALL_MOVED, NO_BYTES, NO_REQUEST, NONE_MOVED, PART_MOVED,
                                    REQUEST_OPEN, REQUEST_SERVED)
 from tests.scripts.generator.moves import (ABLE, ADDRESS_WORD, ADDRESSES, CCC_KINDS, DETACHED,
                                            PRIVATE_KINDS, SMALL, Moves)
+from thymewax import Register
 
 
 class Endings(Moves):

@@ -3,11 +3,10 @@ it."""
 
 from collections import deque
 
-from thymewax import AddressWord, Ccc, Command, Register
-from thymewax.formats import ENTDAA
-
 from tests.scripts.bank import CMD, CMDR, IBI, LOCKED, SDI, SDO, Bank, Transfer, carried
 from tests.scripts.endings import REQUEST_OPEN, REQUEST_SERVED
+from thymewax import AddressWord, Ccc, Command, Register
+from thymewax.formats import ENTDAA
 
 
 class Planned(Transfer):

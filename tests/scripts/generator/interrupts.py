@@ -1,9 +1,8 @@
 """Steps and scenarios of interrupt requests: who is heard, a full queue, many numbers."""
 
-from thymewax import Register
-
 from tests.scripts.bank import DEVICES, IBI
 from tests.scripts.generator.moves import ABLE, ADDRESSES, HEARD, SILENT, SMALL, STORE, Moves
+from thymewax import Register
 
 # Comes to every address.
 DEVICE_STEP = 37

@@ -1,10 +1,9 @@
 """What all steps and scenarios are made of: a fresh bank, commands, bytes, endings."""
 
-from thymewax import Command, Config, Device, Register
-from thymewax.formats import ENTDAA
-
 from tests.scripts.bank import SDI
 from tests.scripts.endings import CODES, NO_ERROR
+from thymewax import Command, Config, Device, Register
+from thymewax.formats import ENTDAA
 
 # The eight addresses of most devices.
 ADDRESSES = [0x00, 0x01, 0x08, 0x09, 0x2a, 0x55, 0x7e, 0x7f]

@@ -1,12 +1,11 @@
 """Steps and scenarios of accesses: every register, offsets without one, devices, modes, pending
 bits."""
 
-from thymewax import Device, Irq, Register
-
 from tests.scripts.bank import DEVICES, MAPPED, OFFLOAD, PUSHING, READ_ONLY, TAKING
 from tests.scripts.generator.moves import (ABLE, ADDRESSES, ATTACHED, DETACHED, EVEN, HEARD,
                                            SILENT, STORE, UNHEARD, Moves)
 from tests.scripts.generator.script import SHOWING
+from thymewax import Device, Irq, Register
 
 # Registers whose write touches no queue, no device, no mode and no hold.
 PLAIN = [Register.SCRATCH] * 4 + [Register.IRQ_MASK] * 12 + OFFLOAD

@@ -1,11 +1,10 @@
 """Rings: each queue is filled past its end, turned, and emptied."""
 
-from thymewax import Register
-
 from tests.scripts.bank import CMD, CMDR, LONGEST, SDI, SDO
 from tests.scripts.endings import NO_ERROR
 from tests.scripts.generator.interrupts import Interrupts
 from tests.scripts.generator.moves import ADDRESS_WORD, SMALL
+from thymewax import Register
 
 
 class Rings(Interrupts):

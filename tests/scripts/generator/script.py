@@ -1,13 +1,12 @@
 """The script that is written: its lines, and the guess that each call moves on."""
 
-from thymewax import Command, Register
-from thymewax.calls import DIGITS, TRIGGER
-
 from tests.scripts.bank import MAPPED, OUTPUT_WORDS, SESSION_CAPACITIES
 from tests.scripts.generator.guess import Guess
 from tests.scripts.generator.no_calls import FAULTS, long_line
 from tests.scripts.lines import (ALL_DIGITS, BYTE, DIGIT, LEND, OFFSET, SESSION_SET_UP, SHOW,
                                  TEST_DIGITS, WORD)
+from thymewax import Command, Register
+from thymewax.calls import DIGITS, TRIGGER
 
 # Registers whose read changes nothing and shows the state.
 SHOWING = [Register.IRQ_SOURCE] * 6 + [Register.IRQ_PENDING] * 3 + [Register.FIFO_STATUS] * 2 + [

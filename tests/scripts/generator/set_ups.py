@@ -1,14 +1,13 @@
 """Set-ups: capacities and watermarks in turn, numbers out of range, calls on a refused bank."""
 
-from thymewax import Register
-from thymewax.calls import DIGITS, TRIGGER
-
 from tests.scripts.bank import (DEVICES, LEAST_CAPACITIES, MOST_CAPACITY, MOST_ID, QUEUES,
                                 TEST_CAPACITIES)
 from tests.scripts.endings import CODES
 from tests.scripts.generator.guess import Guess
 from tests.scripts.generator.moves import Moves
 from tests.scripts.lines import SESSION_SET_UP, SET_UP, SHOW
+from thymewax import Register
+from thymewax.calls import DIGITS, TRIGGER
 
 SMALL_CAPACITIES = [1, 2, 3, 5, 8]
 

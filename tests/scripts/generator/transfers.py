@@ -1,11 +1,10 @@
 """Steps of direct transfers, and the scenario of a long one."""
 
-from thymewax import Register
-
 from tests.scripts.bank import DEVICES, LONGEST, SDI, SDO
 from tests.scripts.endings import CODES, NO_ERROR
 from tests.scripts.generator.addresses import Addresses
 from tests.scripts.generator.moves import ADDRESSES, CCC_KINDS, PRIVATE_KINDS
+from thymewax import Register
 
 COMMAND_KINDS = ['private'] * 6 + ['ccc'] * 5 + ['entdaa'] * 5 + ['any']
 LENGTHS = [0, 0, 0, 0, 1, 1, 1, 2, 2, 3, 3, 4, 4, 5, 5, 6, 7, 8, 9, 12, 13, 16, 17, 20, 33]

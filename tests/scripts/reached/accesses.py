@@ -1,12 +1,11 @@
 """Follows accesses: resets, queues, pending bits, what is stored."""
 
-from thymewax import Config, Number, Register
-
 from tests.scripts.bank import CMD, CMDR, IBI, LOCKED, SDI, SDO
 from tests.scripts.endings import REQUEST_OPEN
 from tests.scripts.reached.followed import (CMDR_PENDING, DAA_PENDING, DONE, IBI_PENDING, Followed)
 from tests.scripts.reached.possible import name_at
 from tests.scripts.reached.situations import BITS, PENDING_BITS
+from thymewax import Config, Number, Register
 
 CONFIG = int(Config.IBI_CONFIG_ENABLE | Config.IBI_CONFIG_LISTEN)
 # The offset of the word that an offset lies in.

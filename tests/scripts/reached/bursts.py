@@ -1,11 +1,10 @@
 """Follows offload bursts: triggers, the output that is lent, the transfers of a burst."""
 
-from thymewax import Command, Number
-from thymewax.calls import TRIGGER
-
 from tests.scripts.bank import CARRIED_LENGTH, CMDR, QUEUES, SDI, SDO, Transfer, carried
 from tests.scripts.endings import NO_ERROR
 from tests.scripts.reached.followed import BURST, DIRECT, DONE, Followed
+from thymewax import Command, Number
+from thymewax.calls import TRIGGER
 
 # The bits of a length that a length up to CARRIED_LENGTH has.
 LOW_BITS = 7

@@ -2,14 +2,13 @@
 
 from collections import Counter
 
-from thymewax import Number
-
 from tests.scripts.lines import SET_UP, SHOW, call_pattern, lent, script_lines, split
 from tests.scripts.reached import no_calls
 from tests.scripts.reached.accesses import Accesses
 from tests.scripts.reached.events import Events
 from tests.scripts.reached.possible import EVENTS
 from tests.scripts.reached.set_ups import SetUps
+from thymewax import Number
 
 
 class Follower(Accesses, Events, SetUps):

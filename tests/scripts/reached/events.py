@@ -1,12 +1,11 @@
 """Follows bus events of direct transfers, and interrupt requests."""
 
-from thymewax import Ccc, Command, Config, Number
-
 from tests.scripts.bank import CMD, CMDR, IBI, LONGEST, SDI, SDO, Transfer
 from tests.scripts.endings import CE2, REQUEST_OPEN, REQUEST_SERVED
 from tests.scripts.reached.bursts import Bursts
 from tests.scripts.reached.followed import BURST, DIRECT, DONE
 from tests.scripts.reached.situations import COMMAND_TO, INTERRUPT_FROM
+from thymewax import Ccc, Command, Config, Number
 
 # A direct CCC whose code is ENTDAA's but for the bit that says so.
 DIRECT_7 = 0x87

@@ -2,10 +2,9 @@
 
 from collections import deque
 
-from thymewax import Irq, Number
-
 from tests.scripts.bank import QUEUES, SESSION_CAPACITIES, Bank
 from tests.scripts.reached.situations import ALL_ORDERS, IDLE, IN_RESET, TRANSFER_OPEN
+from thymewax import Irq, Number
 
 DONE = Number.DONE
 CMDR_PENDING, IBI_PENDING, DAA_PENDING = map(

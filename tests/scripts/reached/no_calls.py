@@ -2,9 +2,8 @@
 
 import re
 
-from thymewax.calls import DIGITS
-
 from tests.scripts.lines import HEX, TEST_DIGITS
+from thymewax.calls import DIGITS
 
 OTHER = 'other'
 ENDS = NEWLINE, CALL, OTHER_LINE = (

@@ -3,12 +3,11 @@
 A script with set-ups and bursts has more of them; `test` says that it is one.
 """
 
-from thymewax import OFFLOAD_CMD, OFFLOAD_SDO, Number, Register
-from thymewax.calls import TRIGGER
-
 from tests.scripts.bank import LOCKED, MAPPED, PUSHING, READ_ONLY, TAKING
 from tests.scripts.endings import BURST_ENDINGS, CODES, ENDINGS
 from tests.scripts.lines import SET_UP, SHOW
+from thymewax import OFFLOAD_CMD, OFFLOAD_SDO, Number, Register
+from thymewax.calls import TRIGGER
 
 
 def named(names):

@@ -2,12 +2,11 @@
 
 import re
 
-from thymewax import Number
-
 from tests.scripts.bank import DEVICES
 from tests.scripts.endings import BURST_ENDINGS, CODES, ENDINGS
 from tests.scripts.reached import no_calls, possible
 from tests.scripts.reached.situations import ADDRESS_USES, situations
+from thymewax import Number
 
 
 def print_pairs(counts, wanted):

@@ -1,12 +1,11 @@
 """The situations that scripts must reach, by the names under which they are counted."""
 
-from thymewax import Irq, Number
-from thymewax.calls import TRIGGER
-
 from tests.scripts.bank import (BURST_LENGTH, CARRIED_LENGTH, LEAST_CAPACITIES, OUTPUT_WORDS,
                                 QUEUES, SESSION_CAPACITIES, TEST_CAPACITIES)
 from tests.scripts.endings import CE2, ENDINGS, NACK, NO_ERROR, UNKNOWN
 from tests.scripts.reached.possible import EVENTS
+from thymewax import Irq, Number
+from thymewax.calls import TRIGGER
 
 
 def orders(letter, *names):

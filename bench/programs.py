@@ -19,10 +19,11 @@ import sys
 import tempfile
 import time
 
-TESTS = pathlib.Path(__file__).resolve().parent.parent / "tests"
-sys.path.insert(0, str(TESTS))
+sys.path.insert(0, str(pathlib.Path(__file__).resolve().parent.parent))
 
-from pack import MOST_BYTES, RECORD, header_bytes, pack
+from tests.shared.packing import pack
+from tests.shared.trial import GENERATE
+from thymewax.trace import MOST_BYTES, RECORD, header_bytes
 
 # Of a trace of one section.
 START = header_bytes(1)
@@ -40,7 +41,7 @@ def run(command, source, target):
 def write_script(folder, calls):
     """The script, and how many lines it has."""
     script = folder / "script"
-    run([sys.executable, "-B", TESTS / "generate.py", "1", str(calls)], "/dev/null", script)
+    run([sys.executable, "-B", GENERATE, "1", str(calls)], "/dev/null", script)
     return script, script.read_bytes().count(b"\n")
 
 

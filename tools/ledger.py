@@ -1,6 +1,6 @@
 """Which commands were taken, started and finished, and which receipts were read.
 
-All of it is counted from the calls and their answers, as 01 counts for demand 3.
+Calls and answers are all that it knows, as in the rules `demand.started` to `demand.receipts`.
 """
 
 from collections import deque

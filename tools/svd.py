@@ -103,8 +103,8 @@ TABLE = {
     'Scratch': Entry(
         'SCRATCH', 'A word that software may use as it likes.', 0, word('SCRATCH', 'The word.')),
     'Enable': Entry(
-        'ENABLE', 'Writing 1 resets queues, transfer, pending bits and syncs and holds them; '
-        'writing 0 then releases. While held, writes to CMD_FIFO and SDO_FIFO are dropped.', 1, [
+        'ENABLE', 'A 1 empties the queues, closes the transfer, clears pending bits and syncs, and '
+        'keeps all that so; a 0 ends this. Until then CMD_FIFO and SDO_FIFO take no word.', 1, [
             Field('ENABLE', 0, 0, '1: held in reset. 0: released.'),
         ]),
     'IrqMask': Entry(

@@ -1,5 +1,5 @@
-//! The cases that 01 marks P ("Marked P, to be proved"), each as a session on the
-//! session's bank: a line, `=>` and its answer.
+//! The cases marked P in 01, 'A session', each as lines for the session's bank: a line,
+//! `=>` and its answer.
 
 use crate::lines::{run_session, Mode};
 
@@ -38,7 +38,7 @@ impl Case {
     }
 }
 
-/// 01, A session, whole; with it "the session's F line".
+/// The example of 01, whole.
 const WORKED_SESSION: &str = "
     W 0040 00000000 => 00000000 00
     W 0180 00001102 => 00000000 00
@@ -52,14 +52,14 @@ const WORKED_SESSION: &str = "
     R 00d8          => 00000000 03
 ";
 
-/// 01: "source after release 0x05; status 0x07".
+/// IRQ_SOURCE and FIFO_STATUS with all queues empty.
 const AFTER_RELEASE: &str = "
     W 0040 00000000 => 00000000 00
     R 0088          => 00000005 00
     R 00e8          => 00000007 00
 ";
 
-/// 01: "room 4, then 0 after four writes; a fifth write is 1".
+/// CMD and SDO filled, and one word too many for each.
 const ROOM: &str = "
     W 0040 00000000 => 00000000 00
     R 00c0          => 00000004 00
@@ -78,7 +78,7 @@ const ROOM: &str = "
     W 00dc 00000000 => 00000000 01
 ";
 
-/// 01: "a CCC word alone is 9".
+/// A CCC starts only with its second word.
 const CCC_WORD_ALONE: &str = "
     W 0040 00000000 => 00000000 00
     W 00d4 00400000 => 00000000 00
@@ -87,8 +87,7 @@ const CCC_WORD_ALONE: &str = "
     S               => 00400000 00
 ";
 
-/// 01: "address words 0x10000000 and 0x13000000 are taken as 8 and 9, 0x11000000
-/// is 19".
+/// Two address words with odd parity, one with even parity between them.
 const ADDRESS_WORDS: &str = "
     W 0040 00000000   => 00000000 00
     W 00d4 00400000   => 00000000 00
@@ -105,7 +104,7 @@ const ADDRESS_WORDS: &str = "
     F 0               => 00000000 00
 ";
 
-/// 01: "a read of 00 01 02 03 04 gives 0x00010203, 0x04000000".
+/// Five bytes in two words of SDI, the second filled up with zeros.
 const READ_OF_FIVE: &str = "
     W 0040 00000000 => 00000000 00
     W 0180 00001102 => 00000000 00
@@ -122,7 +121,7 @@ const READ_OF_FIVE: &str = "
     R 00e0          => 00000000 03
 ";
 
-/// 01: "an interrupt from 8, which sends a byte, with 0x5a gives 0x00105a00".
+/// Device 8 interrupts with a byte.
 const INTERRUPT: &str = "
     W 0040 00000000 => 00000000 00
     W 0140 00000003 => 00000000 00
@@ -131,7 +130,7 @@ const INTERRUPT: &str = "
     R 00e4          => 00105a00 00
 ";
 
-/// 01: "a third byte at length 2 is 11".
+/// One byte more than the length, for a write and a read of 2.
 const THIRD_BYTE: &str = "
     W 0040 00000000 => 00000000 00
     W 0180 00001102 => 00000000 00
@@ -149,7 +148,7 @@ const THIRD_BYTE: &str = "
     X 03            => 00000000 11
 ";
 
-/// 01: "the 257th receipt has sync 0".
+/// The sync of the last one is 0 again.
 fn receipts_257() -> String {
     let mut session = "
         W 0040 00000000 => 00000000 00

@@ -60,7 +60,7 @@ impl fmt::Display for Unusable {
     }
 }
 
-/// Lines of a file. 01: "a line ends at a newline or the end of the input".
+/// Lines of a file; the last one needs no newline (01, 'A session').
 struct Lines<R> {
     input: R,
     what: &'static str,
@@ -99,8 +99,7 @@ impl<R: BufRead> Lines<R> {
     }
 }
 
-/// 01: "the value in eight lower-case hex digits, a space and the number in two
-/// decimal digits".
+/// An answer's line, exactly as a session prints it (01, 'A session').
 fn parse_answer(line: &[u8]) -> Option<Answer> {
     let line = std::str::from_utf8(line).ok()?;
     let (value, number) = line.split_once(' ')?;
@@ -125,8 +124,7 @@ fn judge(script: impl BufRead, answers: impl BufRead, mode: Mode) -> Result<Find
     let mut count = Count::new();
     let mut calls = 0;
     while script.advance()? {
-        // 01: "other lines are skipped": they have no answer, nor has the line that
-        // lends the output.
+        // A line that is no call has no answer, nor has the one that lends the output.
         let request = parse_line(&script.line, mode).filter(Request::has_answer);
         let Some(request) = request else {
             continue;

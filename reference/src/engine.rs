@@ -1,13 +1,14 @@
 //! The model: five queues, the register file, one transfer, the bus events and
 //! offload bursts.
 //!
-//! Comments name the clause they follow: "01" is the scope page, "02" section 3 of
-//! the change requests, "001" the register page, "004" the control interface.
+//! Each rule is followed by its place: 01 is the scope page, 02 the change requests, 001
+//! the register page, 004 the control interface.
 
+use crate::number::*;
 use std::collections::VecDeque;
 
-/// What a call returns. 01, Numbers: "Each call returns a value and a number;
-/// the value is 0 where none is named."
+/// The result of a call; the value is 0 unless its rule gives one (01, 'Numbers that come
+/// back').
 #[derive(Clone, Copy, Debug, PartialEq, Eq)]
 pub struct Answer {
     pub value: u32,
@@ -15,40 +16,16 @@ pub struct Answer {
 }
 
 fn done(value: u32) -> Answer {
-    Answer { value, number: 0 }
+    Answer {
+        value,
+        number: DONE,
+    }
 }
 
-/// 01, Numbers: "Except for 0 and 19 ... the value is 0."
+/// A refusal has no value (01, 'Numbers that come back').
 fn refuse(number: u8) -> Answer {
     Answer { value: 0, number }
 }
-
-// 01, Numbers, the table.
-const FULL: u8 = 1;
-const READ_ONLY: u8 = 2;
-const EMPTY: u8 = 3;
-const NOT_IN_MAP: u8 = 4;
-const HELD_IN_RESET: u8 = 5;
-const TRANSFER_OPEN: u8 = 6;
-const NO_TRANSFER: u8 = 7;
-const OFFLOAD_MODE: u8 = 8;
-const NO_WHOLE_COMMAND: u8 = 9;
-const NOT_FOR_THIS_KIND: u8 = 10;
-const LENGTH_REACHED: u8 = 11;
-const SDO_EMPTY: u8 = 12;
-const NO_ROOM: u8 = 13;
-const ENDING_NOT_ALLOWED: u8 = 14;
-const SDO_NOT_EMPTY: u8 = 15;
-const NOT_HEARD: u8 = 16;
-const NOT_ACKNOWLEDGED: u8 = 17;
-const OUT_OF_RANGE: u8 = 18;
-const WRONG_PARITY: u8 = 19;
-const NOT_ATTACHED: u8 = 20;
-const NOT_WELL_FORMED: u8 = 21;
-const SETUP_OUT_OF_RANGE: u8 = 23;
-// 02, Refusals.
-const NO_BURST_LENGTH: u8 = 28;
-const NOT_CARRIED: u8 = 29;
 
 /// One call other than set-up.
 #[derive(Clone, Copy, Debug, PartialEq, Eq)]
@@ -65,8 +42,8 @@ pub enum Call {
     Trigger,
 }
 
-/// The eleven set-up numbers, queues in the order CMD CMDR SDO SDI IBI.
-/// 01: "Set-up gives five capacities, five watermarks and the ID."
+/// The eleven set-up numbers, queues in the order CMD CMDR SDO SDI IBI (01, 'The part of
+/// the controller we model').
 #[derive(Clone, Copy, Debug, PartialEq, Eq)]
 pub struct SetupNumbers {
     pub capacities: [u32; 5],
@@ -74,8 +51,8 @@ pub struct SetupNumbers {
     pub id: u32,
 }
 
-/// 01, A session: "Its bank has every capacity 4, almost-empty watermarks 1,
-/// almost-full 3, ID 0." CMD and SDO have the almost-empty watermarks (001).
+/// The bank of a session (01, 'A session'). CMD and SDO have the almost-empty watermarks
+/// (001).
 pub(crate) const SESSION_NUMBERS: SetupNumbers = SetupNumbers {
     capacities: [4, 4, 4, 4, 4],
     watermarks: [1, 3, 1, 3, 3],
@@ -88,15 +65,14 @@ const ZERO_NUMBERS: SetupNumbers = SetupNumbers {
     id: 0,
 };
 
-/// 01: "CMD and SDI 2 to 1,024, the others 1 to 1,024."
+/// CMD and SDI need room for two words (01, 'The part of the controller we model').
 const LEAST_CAPACITIES: [u32; 5] = [2, 1, 1, 2, 1];
 const GREATEST_CAPACITY: u32 = 1024;
-/// 01: "ID is 0 to 255."
 const GREATEST_ID: u32 = 255;
 
 impl SetupNumbers {
-    /// 01: capacities in their ranges; "A watermark is 0 to its queue's
-    /// capacity; ID is 0 to 255."
+    /// No watermark lies above its queue's capacity (01, 'The part of the controller we
+    /// model').
     fn in_range(&self) -> bool {
         let queues_in_range = (0..5).all(|queue| {
             let capacity = self.capacities[queue];
@@ -129,7 +105,7 @@ impl Queue {
         self.words.len() as u32
     }
 
-    /// 01, Register map: "room is capacity less level, also in reset."
+    /// The words that still fit; in reset all of them (01, 'Register map').
     fn room(&self) -> u32 {
         self.capacity - self.level()
     }
@@ -152,17 +128,17 @@ impl Queue {
         self.words.pop_front()
     }
 
-    /// 01: "a reset sets heads and levels to 0".
+    /// Forgets all words (01, 'The part of the controller we model').
     fn reset(&mut self) {
         self.words.clear();
     }
 
-    /// 01, Source bits: "CMD level below its watermark".
+    /// For source bits 0 and 2; false at the watermark (01, 'Register map').
     fn is_below_watermark(&self) -> bool {
         self.level() < self.watermark
     }
 
-    /// 01, Source bits: "CMDR above".
+    /// For source bits 1, 3 and 4; false at the watermark (01, 'Register map').
     fn is_above_watermark(&self) -> bool {
         self.level() > self.watermark
     }
@@ -196,7 +172,7 @@ enum Register {
     OffloadData(usize),
 }
 
-/// 01, number 4: "offset not in the map, or not a multiple of 4".
+/// None where the offset is `NO_REGISTER` (01, 'Register map').
 fn register_at(offset: u16) -> Option<Register> {
     if offset % 4 != 0 {
         return None;
@@ -230,8 +206,8 @@ fn register_at(offset: u16) -> Option<Register> {
     Some(register)
 }
 
-/// 01, Register map: the entries marked read-only; of CMDR, SDI and IBI it says
-/// "write is answer 2".
+/// The registers that drop writes (`DROPPED_READ_ONLY`); CMDR, SDI and IBI do, though a read
+/// of them takes a word (01, 'Register map').
 fn is_read_only(register: Register) -> bool {
     matches!(
         register,
@@ -250,8 +226,7 @@ fn is_read_only(register: Register) -> bool {
     )
 }
 
-/// 02: "While a burst is open, writes to OPS and both offload memories are dropped
-/// whole".
+/// The registers that an open burst rests on, so that it refuses writes to them (02 §3).
 fn is_locked_by_burst(register: Register) -> bool {
     matches!(
         register,
@@ -259,7 +234,7 @@ fn is_locked_by_burst(register: Register) -> bool {
     )
 }
 
-/// 01: "The device table holds three flags for each of the 128 device addresses."
+/// One device's flags in the table of 128 (01, 'The part of the controller we model').
 #[derive(Clone, Copy, Debug, Default, PartialEq, Eq)]
 struct Device {
     sends_byte: bool,
@@ -275,7 +250,8 @@ struct Pending {
     address: bool,
 }
 
-/// What a command asks for. 01: ENTDAA "is neither" a write nor a read.
+/// What a command asks for. ENTDAA counts as no write and as no read (01, 'What demand 3
+/// counts').
 #[derive(Clone, Copy, Debug, PartialEq, Eq)]
 enum Kind {
     Private {
@@ -299,16 +275,17 @@ struct Command {
     address: u8,
 }
 
-/// 01, Commands: "22 CCC".
+/// Bit 22 tells a CCC (01, 'Commands and receipts').
 fn is_ccc(first: u32) -> bool {
     first >> 22 & 1 == 1
 }
 
-/// 01, Commands: "ENTDAA is the code 0x07"; the code is the whole low byte, so
-/// 0x87 is a direct CCC and not ENTDAA.
+/// The code has all eight bits, so that 0x87 is a direct CCC and not ENTDAA (01, 'Commands
+/// and receipts').
 const ENTDAA_CODE: u32 = 0x07;
 
-/// 01, Commands: "A CCC takes a second word: bit 7 direct, low byte the code."
+/// By the code in the second word's low byte, whose bit 7 is set for a direct CCC (01,
+/// 'Commands and receipts').
 fn ccc_kind(second: u32) -> Kind {
     if second & 0xff == ENTDAA_CODE {
         Kind::Entdaa {
@@ -322,8 +299,8 @@ fn ccc_kind(second: u32) -> Kind {
     }
 }
 
-/// 01, Commands: "21 broadcast header, 20 Sr, 19:8 length, 7:1 address, 0 read".
-/// `second` is present exactly for a CCC.
+/// The fields of a command's words (01, 'Commands and receipts'). `second` is present
+/// exactly for a CCC.
 fn parse_command(first: u32, second: Option<u32>) -> Command {
     let kind = match second {
         Some(word) => ccc_kind(word),
@@ -331,7 +308,7 @@ fn parse_command(first: u32, second: Option<u32>) -> Command {
             header: first >> 21 & 1 == 1,
         },
     };
-    // 01, Commands: ENTDAA's "length counts as 0".
+    // ENTDAA has no payload, whatever its length field holds.
     let length = match kind {
         Kind::Entdaa { .. } => 0,
         _ => first >> 8 & 0xfff,
@@ -344,7 +321,7 @@ fn parse_command(first: u32, second: Option<u32>) -> Command {
     }
 }
 
-/// 02: "Only private commands of length at most 4 are carried."
+/// A burst has private commands of 0 to 4 bytes and no others (02 §3).
 fn is_carried(word: u32) -> bool {
     !is_ccc(word) && parse_command(word, None).length <= 4
 }
@@ -363,8 +340,8 @@ struct Transfer {
     command: Command,
     /// The place of its command in the open burst; none for a direct transfer.
     burst_place: Option<usize>,
-    /// False only for a private transfer or direct CCC whose device was not
-    /// attached when the transfer opened.
+    /// Whether the device of a private transfer or a direct CCC was attached when the
+    /// transfer opened; else true.
     attached: bool,
     /// Payload bytes moved.
     moved: u32,
@@ -388,14 +365,13 @@ impl Transfer {
         !self.is_entdaa() && self.command.is_read
     }
 
-    /// 01, Finish: the endings allowed.
+    /// Which codes end the transfer (01, 'Bus events', finish).
     fn may_end_with(&self, code: u8) -> bool {
-        // "device unattached, code 8 only."
         if !self.attached {
             return code == 8;
         }
         match self.command.kind {
-            // "ENTDAA, 0 with no request open, 4 with none made since start."
+            // Code 4: no device answered, so that none made a request.
             Kind::Entdaa { open, made } => match code {
                 0 => !open,
                 4 => !made,
@@ -407,41 +383,39 @@ impl Transfer {
         }
     }
 
-    /// 01, Finish: "For the rest".
+    /// The same for transfers that have a payload and a device that is attached, or none.
     fn may_end_payload(&self, code: u8, ccc: bool, broadcast: bool, header: bool) -> bool {
         let none_moved = self.moved == 0;
         let all_moved = self.moved == self.command.length;
         match code {
-            // "0 for a write with m = L, a private read with any m, a CCC read
-            // with m = L"
+            // All bytes moved; a private read may also end early.
             0 => all_moved || (self.command.is_read && !ccc),
-            // "1 for a CCC read with m below L"
+            // A CCC read ended early (004).
             1 => self.command.is_read && ccc && !all_moved,
-            // "4 if m = 0 and a CCC or the header bit is set"
+            // No device acknowledged the broadcast address, with which a CCC or a header
+            // begins (004).
             4 => none_moved && (ccc || header),
-            // "6 if m = 0 and not a broadcast CCC"
+            // The device did not acknowledge; a broadcast has none.
             6 => none_moved && !broadcast,
-            // "All else is 14."
             _ => false,
         }
     }
 }
 
-/// 01: "First payload byte is the most significant of its word."
-/// A part-filled word "is padded with 0".
+/// Up to four bytes as a word, the first one in bits 31:24, zeros behind the last (01,
+/// 'Commands and receipts', 'Bus events').
 fn word_of_bytes(bytes: &[u8]) -> u32 {
     let mut padded = [0; 4];
     padded[..bytes.len()].copy_from_slice(bytes);
     u32::from_be_bytes(padded)
 }
 
-/// 01, Commands: "Receipt: 23:20 error, 19:8 length, 7:0 sync".
+/// The fields of a receipt (01, 'Commands and receipts').
 fn receipt_word(code: u8, length: u32, sync: u8) -> u32 {
     u32::from(code) << 20 | length << 8 | u32::from(sync)
 }
 
-/// 01, Commands: "Interrupt entry: 23:17 address, 15:8 data byte, 7:0 its own
-/// sync."
+/// The fields of an interrupt entry (01, 'Commands and receipts').
 fn interrupt_entry(address: u8, byte: u8, sync: u8) -> u32 {
     u32::from(address) << 17 | u32::from(byte) << 8 | u32::from(sync)
 }
@@ -473,13 +447,13 @@ pub struct Bank {
     offload_data: [u32; 16],
 }
 
-/// 01, Numbers: "Set-up gives 0 with a bank held in reset, registers and device
-/// table 0 but for ENABLE and ID, or 23 with a bank whose every number is 0."
+/// A new bank in reset. Numbers out of range give one on which no call works: all its
+/// numbers are 0, ENABLE too (01, 'Numbers that come back').
 pub fn set_up(numbers: &SetupNumbers) -> (Bank, Answer) {
     if numbers.in_range() {
         (Bank::new(*numbers, true), done(0))
     } else {
-        (Bank::new(ZERO_NUMBERS, false), refuse(SETUP_OUT_OF_RANGE))
+        (Bank::new(ZERO_NUMBERS, false), refuse(SET_UP_OUT_OF_RANGE))
     }
 }
 
@@ -510,7 +484,7 @@ impl Bank {
         }
     }
 
-    /// `output` is lent to the events. 02: "Read bytes go to a lent output of words".
+    /// `output` is lent to the events; what a burst reads goes there (02 §3).
     pub fn call(&mut self, call: &Call, output: &mut [u32]) -> Answer {
         match *call {
             Call::Read { offset } => self.read(offset),
@@ -528,21 +502,21 @@ impl Bank {
         }
     }
 
-    /// 01, Numbers, "Well formed: set-up numbers in range". Of the conditions
-    /// there this is the only one that can fail here.
+    /// Of the conditions on a bank only this one can fail here: it does after a refused
+    /// set-up (01, 'Numbers that come back').
     fn is_well_formed(&self) -> bool {
         self.numbers.in_range()
     }
 
-    // Accesses. 01, Numbers: "For accesses: 21, 22, 4, 2, 5, 1, 3."; 02 puts 6 after
-    // 4.
+    // Accesses. The order of their numbers: 01, 'Numbers that come back', with
+    // `TRANSFER_OPEN` behind `NO_REGISTER` in a burst (02 §3).
 
     pub(crate) fn read(&mut self, offset: u16) -> Answer {
         if !self.is_well_formed() {
             return refuse(NOT_WELL_FORMED);
         }
         let Some(register) = register_at(offset) else {
-            return refuse(NOT_IN_MAP);
+            return refuse(NO_REGISTER);
         };
         match register {
             Register::Cmdr => self.read_cmdr(),
@@ -555,13 +529,11 @@ impl Bank {
     /// The value of a register whose read changes nothing.
     fn register_value(&self, register: Register) -> u32 {
         match register {
-            // 01: "0x000 VERSION 0x00000100; 0x004 ID".
             Register::Version => 0x0000_0100,
             Register::Id => self.numbers.id,
             Register::Scratch => self.scratch,
             Register::Enable => u32::from(self.in_reset),
             Register::IrqMask => self.irq_mask,
-            // 01: "0x084 IRQ_PENDING reads source AND mask".
             Register::IrqPending => self.irq_source() & self.irq_mask,
             Register::IrqSource => self.irq_source(),
             Register::CmdRoom => self.cmd.room(),
@@ -570,20 +542,19 @@ impl Bank {
             Register::SdiLevel => self.sdi.level(),
             Register::IbiLevel => self.ibi.level(),
             Register::FifoStatus => self.fifo_status(),
-            // 01: OPS "bit 7 read-only, 1 when no transfer is open".
+            // Bit 7 is not stored.
             Register::Ops => u32::from(self.transfer.is_none()) << 7 | self.ops,
             Register::DevChar => self.device_characteristics(),
             Register::OffloadCommand(n) => self.offload_commands[n],
             Register::OffloadData(n) => self.offload_data[n],
-            // 01: "Reads of write-only registers give 0."
+            // These can only be written (01, 'Register map').
             Register::Cmd | Register::Sdo | Register::IbiConfig => 0,
             Register::Cmdr | Register::Sdi | Register::Ibi => 0,
         }
     }
 
-    /// 01: "Source bits: 0 CMD level below its watermark; 1 CMDR above; 2 SDO
-    /// below; 3 SDI above; 4 IBI above; 5 set by a receipt; 6 set by an accepted
-    /// interrupt; 7 set by an address request".
+    /// Bits 0 to 4 follow the levels of the queues, in their order; 5 to 7 are stored (01,
+    /// 'Register map').
     fn irq_source(&self) -> u32 {
         let bits = [
             self.cmd.is_below_watermark(),
@@ -598,14 +569,15 @@ impl Bank {
         (0..8).map(|n| u32::from(bits[n]) << n).sum()
     }
 
-    /// 01: "bit 2 SDI, bit 1 IBI, bit 0 CMDR empty."
+    /// A bit for each of the queues that can be read, 1 if it has no word (01, 'Register
+    /// map').
     fn fifo_status(&self) -> u32 {
         u32::from(self.sdi.is_empty()) << 2
             | u32::from(self.ibi.is_empty()) << 1
             | u32::from(self.cmdr.is_empty())
     }
 
-    /// 01: "Reads show the selected address and its flags."
+    /// DEV_CHAR as it is read: the device selected last (01, 'Register map').
     fn device_characteristics(&self) -> u32 {
         let device = self.devices[self.selected];
         (self.selected as u32) << 9
@@ -614,7 +586,7 @@ impl Bank {
             | u32::from(device.attached) << 1
     }
 
-    /// 01: "0x0d8 CMDR ... read takes"; "A read that empties CMDR clears bit 5".
+    /// The read of the last receipt clears source bit 5 (01, 'Register map').
     fn read_cmdr(&mut self) -> Answer {
         let Some(word) = self.cmdr.take() else {
             return refuse(EMPTY);
@@ -632,7 +604,7 @@ impl Bank {
         }
     }
 
-    /// 01: "A read that empties CMDR clears bit 5, IBI bit 6".
+    /// The read of the last entry clears source bit 6 (01, 'Register map').
     fn read_ibi(&mut self) -> Answer {
         let Some(word) = self.ibi.take() else {
             return refuse(EMPTY);
@@ -648,63 +620,59 @@ impl Bank {
             return refuse(NOT_WELL_FORMED);
         }
         let Some(register) = register_at(offset) else {
-            return refuse(NOT_IN_MAP);
+            return refuse(NO_REGISTER);
         };
         if self.burst_place().is_some() && is_locked_by_burst(register) {
             return refuse(TRANSFER_OPEN);
         }
         if is_read_only(register) {
-            return refuse(READ_ONLY);
+            return refuse(DROPPED_READ_ONLY);
         }
         match register {
             Register::Cmd => return self.write_cmd(value),
             Register::Sdo => return self.write_sdo(value),
             Register::Scratch => self.scratch = value,
             Register::Enable => self.write_enable(value),
-            // 01: "0x080 IRQ_MASK, bits 7:0."
             Register::IrqMask => self.irq_mask = value & 0xff,
             Register::IrqPending => self.write_irq_pending(value),
-            // 01: OPS "6:5 speed, 4:1 offload length, bit 0 mode"; bit 7 is
-            // read-only.
+            // Bit 7 can't be written.
             Register::Ops => self.ops = value & 0x7f,
             Register::IbiConfig => self.write_ibi_config(value),
             Register::DevChar => self.write_dev_char(value),
-            // 01: "all read and write, against 001."
+            // 001 has them otherwise; 01 decides.
             Register::OffloadCommand(n) => self.offload_commands[n] = value,
             Register::OffloadData(n) => self.offload_data[n] = value,
-            _ => return refuse(READ_ONLY),
+            _ => return refuse(DROPPED_READ_ONLY),
         }
         done(0)
     }
 
-    /// 01: "a word written to CMD or SDO is queued whole"; numbers 5, then 1.
+    /// All 32 bits are kept (01, 'Register map').
     fn write_cmd(&mut self, word: u32) -> Answer {
         if self.in_reset {
             return refuse(HELD_IN_RESET);
         }
         if self.cmd.is_full() {
-            return refuse(FULL);
+            return refuse(DROPPED_FULL);
         }
         self.cmd.push(word);
         done(0)
     }
 
-    /// 01: "an accepted SDO write clears bit 7."
+    /// A word that is queued clears source bit 7 (01, 'Register map').
     fn write_sdo(&mut self, word: u32) -> Answer {
         if self.in_reset {
             return refuse(HELD_IN_RESET);
         }
         if self.sdo.is_full() {
-            return refuse(FULL);
+            return refuse(DROPPED_FULL);
         }
         self.sdo.push(word);
         self.pending.address = false;
         done(0)
     }
 
-    /// 01: ENABLE "bit 0 ... Writing 1 resets queues, transfer, pending bits and
-    /// syncs and holds them; other registers and the device table stay. Writing
-    /// 0 then releases; once released it changes nothing."
+    /// 1 resets and holds, 0 releases; a second release does nothing (01, 'Register map').
     fn write_enable(&mut self, value: u32) {
         self.in_reset = value & 1 == 1;
         if self.in_reset {
@@ -712,6 +680,8 @@ impl Bank {
         }
     }
 
+    /// Registers that the driver has written, and the device table, stay (01, 'Register
+    /// map').
     fn reset(&mut self) {
         self.cmd.reset();
         self.cmdr.reset();
@@ -724,7 +694,7 @@ impl Bank {
         self.interrupt_sync = 0;
     }
 
-    /// 01: "a 1 written to bits 5 to 7 clears that pending bit."
+    /// Each 1 clears the stored source bit in its place (01, 'Register map').
     fn write_irq_pending(&mut self, value: u32) {
         if value >> 5 & 1 == 1 {
             self.pending.receipt = false;
@@ -737,15 +707,14 @@ impl Bank {
         }
     }
 
-    /// 01: "0x140 IBI_CONFIG, write-only: bit 1 listen, bit 0 enable."
+    /// Bit 0, enable, says whether requests are acknowledged (01, 'Register map').
     fn write_ibi_config(&mut self, value: u32) {
         self.listen = value >> 1 & 1 == 1;
         self.acknowledge = value & 1 == 1;
     }
 
-    /// 01: "15:9 address, bit 8 write enable, bit 3 sends a data byte, bit 2 may
-    /// interrupt, bit 1 attached. Every write selects the address; with bit 8
-    /// set it also stores the three flags."
+    /// Selects a device for reads; bit 8 asks for its flags to be stored too (01, 'Register
+    /// map').
     fn write_dev_char(&mut self, value: u32) {
         self.selected = (value >> 9 & 0x7f) as usize;
         if value >> 8 & 1 == 1 {
@@ -757,11 +726,12 @@ impl Bank {
         }
     }
 
-    // Bus events. 01, Numbers: "21 goes first, then 22, then 18, then the order
-    // given at each event."; 02 puts 13 for the output after 18.
+    // Bus events. The order of their numbers: `NOT_WELL_FORMED`, `OUT_OF_RANGE`, then
+    // `NO_ROOM` for the output of an open burst (02 §3), then each event's own (01, 'Bus
+    // events').
 
-    /// 01, Start: "5, 6, 8, 9, 15. Takes the whole command; value is its first
-    /// word."
+    /// Opens the transfer of the command that waits first, and shows its first word (01,
+    /// 'Bus events').
     pub(crate) fn start(&mut self, output: &[u32]) -> Answer {
         if !self.is_well_formed() {
             return refuse(NOT_WELL_FORMED);
@@ -776,10 +746,10 @@ impl Bank {
             return refuse(TRANSFER_OPEN);
         }
         if self.is_in_offload_mode() {
-            return refuse(OFFLOAD_MODE);
+            return refuse(NOT_IN_THIS_MODE);
         }
         let Some((first, second)) = self.waiting_command() else {
-            return refuse(NO_WHOLE_COMMAND);
+            return refuse(NO_COMMAND);
         };
         let command = parse_command(first, second);
         if matches!(command.kind, Kind::Entdaa { .. }) && !self.sdo.is_empty() {
@@ -793,13 +763,13 @@ impl Bank {
         done(first)
     }
 
-    /// OPS "bit 0 mode".
+    /// OPS bit 0.
     fn is_in_offload_mode(&self) -> bool {
         self.ops & 1 == 1
     }
 
-    /// The whole command at the head of CMD. 01, What demand 3 counts: "a word
-    /// with bit 22 set and the next are one command, any other word is one."
+    /// The command at the head of CMD, if it is whole: a CCC has two words (01, 'Commands
+    /// and receipts').
     fn waiting_command(&self) -> Option<(u32, Option<u32>)> {
         let first = *self.cmd.words.front()?;
         if is_ccc(first) {
@@ -810,8 +780,8 @@ impl Bank {
         }
     }
 
-    /// 01, Start: "For a private transfer or direct CCC it notes whether the
-    /// device is attached now."
+    /// What DEV_CHAR does later has no effect on the transfer: whether its device is
+    /// attached is kept with it (01, 'Bus events', start).
     fn new_transfer(&self, command: Command) -> Transfer {
         let attached = match command.kind {
             Kind::Private { .. } | Kind::DirectCcc => {
@@ -829,9 +799,9 @@ impl Bank {
         }
     }
 
-    /// 01, Send a byte: "5, 7, 20, 10 (a read or ENTDAA), 11, 12. A word leaves
-    /// SDO with its first byte, and only there can 12 arise; bytes past the
-    /// length are dropped. Value: the byte." In a burst the bytes lie ready.
+    /// Gives the next byte of a write. Every fourth time, from the first on, it needs a new
+    /// word of SDO; what the last word has past the length is never sent (01, 'Bus events').
+    /// In a burst the bytes lie ready.
     pub(crate) fn send(&mut self, output: &[u32]) -> Answer {
         if !self.is_well_formed() {
             return refuse(NOT_WELL_FORMED);
@@ -849,7 +819,7 @@ impl Bank {
             return refuse(NOT_ATTACHED);
         }
         if !transfer.is_write() {
-            return refuse(NOT_FOR_THIS_KIND);
+            return refuse(NOT_THIS_KIND);
         }
         if transfer.moved == transfer.command.length {
             return refuse(LENGTH_REACHED);
@@ -865,8 +835,8 @@ impl Bank {
         done(u32::from(byte))
     }
 
-    /// 01, Receive a byte: "5, 7, 20, 10 (a write or ENTDAA), 11, 13. A word goes
-    /// to SDI with its fourth byte; 13 only when that push has no room."
+    /// Takes the next byte of a read. Every fourth one completes a word, which needs a place
+    /// in SDI (01, 'Bus events').
     pub(crate) fn receive(&mut self, byte: u8, output: &[u32]) -> Answer {
         if !self.is_well_formed() {
             return refuse(NOT_WELL_FORMED);
@@ -884,7 +854,7 @@ impl Bank {
             return refuse(NOT_ATTACHED);
         }
         if !transfer.is_read() {
-            return refuse(NOT_FOR_THIS_KIND);
+            return refuse(NOT_THIS_KIND);
         }
         if transfer.moved == transfer.command.length {
             return refuse(LENGTH_REACHED);
@@ -903,16 +873,14 @@ impl Bank {
         done(0)
     }
 
-    /// 01, Finish with a code: "5, 7, 14, 13. A part-filled word is padded with 0
-    /// and pushed, then the receipt (the value). 13 if a word to be pushed has no
-    /// room; then nothing is pushed." In a burst, 02: "Read bytes go to a lent output
-    /// of words, one per read command at its finish, padded with 0. Burst transfers
-    /// queue no receipt (the finish's value is 0)"; "an error code doesn't stop it".
+    /// Ends the transfer: the bytes that fill no word go to SDI, the receipt to CMDR, both
+    /// or neither; it shows the receipt (01, 'Bus events'). In a burst there is no receipt:
+    /// the bytes of a read go to the output, and the next transfer opens, whatever the code
+    /// (02 §3).
     pub(crate) fn finish(&mut self, code: u8, output: &mut [u32]) -> Answer {
         if !self.is_well_formed() {
             return refuse(NOT_WELL_FORMED);
         }
-        // 01, number 18: "code above 15".
         if code > 15 {
             return refuse(OUT_OF_RANGE);
         }
@@ -948,22 +916,20 @@ impl Bank {
         done(receipt)
     }
 
-    /// 01: source bit 5 is "set by a receipt"; "The sync starts at 0 and returns
-    /// to 0 after 255."
+    /// Sets source bit 5; the sync has eight bits (01, 'Register map', 'Commands and
+    /// receipts').
     fn queue_receipt(&mut self, receipt: u32) {
         self.cmdr.push(receipt);
         self.pending.receipt = true;
         self.receipt_sync = self.receipt_sync.wrapping_add(1);
     }
 
-    /// 01, Interrupt request: "5, 6, 16 (listen 0), 17 (enable 0, or not
-    /// attached, or may not interrupt), 13. A device that sends no byte is stored
-    /// with 0. Value: the entry."
+    /// Queues an interrupt and shows its entry. The byte counts only where the device's flag
+    /// says that it sends one (01, 'Bus events').
     pub(crate) fn interrupt_request(&mut self, address: u8, byte: u8, output: &[u32]) -> Answer {
         if !self.is_well_formed() {
             return refuse(NOT_WELL_FORMED);
         }
-        // 01, number 18: "address above 127".
         if address > 127 {
             return refuse(OUT_OF_RANGE);
         }
@@ -992,16 +958,15 @@ impl Bank {
         done(entry)
     }
 
-    /// 01: source bit 6 is "set by an accepted interrupt"; the entry has "its own
-    /// sync".
+    /// Sets source bit 6. Interrupts have a sync apart from that of the receipts (01,
+    /// 'Register map', 'Commands and receipts').
     fn queue_interrupt(&mut self, entry: u32) {
         self.ibi.push(entry);
         self.pending.interrupt = true;
         self.interrupt_sync = self.interrupt_sync.wrapping_add(1);
     }
 
-    /// 01, Address request: "5, 7, 10 (not ENTDAA, or one is open), 13 (SDI room
-    /// below 2). Pushes both."
+    /// A device without an address asks for one; its two words go to SDI (01, 'Bus events').
     pub(crate) fn address_request(&mut self, first: u32, second: u32, output: &[u32]) -> Answer {
         if !self.is_well_formed() {
             return refuse(NOT_WELL_FORMED);
@@ -1016,10 +981,10 @@ impl Bank {
             return refuse(NO_TRANSFER);
         };
         let Kind::Entdaa { open, made } = &mut transfer.command.kind else {
-            return refuse(NOT_FOR_THIS_KIND);
+            return refuse(NOT_THIS_KIND);
         };
         if *open {
-            return refuse(NOT_FOR_THIS_KIND);
+            return refuse(NOT_THIS_KIND);
         }
         if self.sdi.room() < 2 {
             return refuse(NO_ROOM);
@@ -1032,17 +997,16 @@ impl Bank {
         done(0)
     }
 
-    /// 01: source bit 7 is "set by an address request (and by answer 19) when SDO
-    /// is then empty."
+    /// Source bit 7: the driver has to write an address word, unless one is in SDO already
+    /// (01, 'Register map').
     fn ask_for_address(&mut self) {
         if self.sdo.is_empty() {
             self.pending.address = true;
         }
     }
 
-    /// 01, Address take: "5, 7, 10 (not ENTDAA, or none open), 12. Bits 31:25 are
-    /// the address, the value; bits 31:24 together hold an odd number of ones,
-    /// else 19."
+    /// Takes the address word for the device that asked. Its top byte is the address and a
+    /// bit that makes the count of ones odd (01, 'Bus events').
     pub(crate) fn address_take(&mut self, output: &[u32]) -> Answer {
         if !self.is_well_formed() {
             return refuse(NOT_WELL_FORMED);
@@ -1057,10 +1021,10 @@ impl Bank {
             return refuse(NO_TRANSFER);
         };
         let Kind::Entdaa { open, .. } = &mut transfer.command.kind else {
-            return refuse(NOT_FOR_THIS_KIND);
+            return refuse(NOT_THIS_KIND);
         };
         if !*open {
-            return refuse(NOT_FOR_THIS_KIND);
+            return refuse(NOT_THIS_KIND);
         }
         let Some(word) = self.sdo.take() else {
             return refuse(SDO_EMPTY);
@@ -1070,7 +1034,7 @@ impl Bank {
             *open = false;
             done(address)
         } else {
-            // 01, number 19: "taken, request stays open; value is the address".
+            // The device still asks, and the driver has to try again.
             self.ask_for_address();
             Answer {
                 value: address,
@@ -1081,8 +1045,7 @@ impl Bank {
 
     // Offload bursts.
 
-    /// 02, Refusals: "5 and 6 as for start, then 8 when mode is 0, 28 length field 0,
-    /// 29 a command not carried, 13 output shorter than the reads".
+    /// Opens a burst with the transfer of its first command (02 §3).
     pub(crate) fn trigger(&mut self, output: &[u32]) -> Answer {
         if !self.is_well_formed() {
             return refuse(NOT_WELL_FORMED);
@@ -1097,11 +1060,11 @@ impl Bank {
             return refuse(TRANSFER_OPEN);
         }
         if !self.is_in_offload_mode() {
-            return refuse(OFFLOAD_MODE);
+            return refuse(NOT_IN_THIS_MODE);
         }
         let commands = self.burst_commands();
         if commands.is_empty() {
-            return refuse(NO_BURST_LENGTH);
+            return refuse(BURST_HAS_NO_COMMANDS);
         }
         if !commands.iter().all(|word| is_carried(*word)) {
             return refuse(NOT_CARRIED);
@@ -1113,8 +1076,8 @@ impl Bank {
         done(0)
     }
 
-    /// 02: "the first `offload length` words of the offload commands"; OPS "4:1
-    /// offload length". Locked while a burst is open, so these are its commands.
+    /// As many offload commands as OPS bits 4:1 say (02 §3). All of this is locked while a
+    /// burst is open, so these are its commands.
     fn burst_commands(&self) -> &[u32] {
         let length = self.ops >> 1 & 0xf;
         &self.offload_commands[..length as usize]
@@ -1130,15 +1093,13 @@ impl Bank {
         read_count(&self.burst_commands()[..place])
     }
 
-    /// 02: "13 output shorter than the reads (at each event in an open burst too,
-    /// after 18 ...)".
+    /// The output must have a word for each read of the open burst, at every event (02 §3).
     fn is_output_short(&self, output: &[u32]) -> bool {
         self.burst_place().is_some() && output.len() < read_count(self.burst_commands())
     }
 
-    /// The transfer of the burst's command at `place`, none past its last. 02: "each
-    /// noting attachment then"; "each private write has the next offload data word
-    /// for its bytes, most significant first".
+    /// The transfer of the burst's command at `place`, none past its last. The device table
+    /// of this moment counts; the writes get the offload data words in turn (02 §3).
     fn burst_transfer(&self, place: usize) -> Option<Transfer> {
         let word = *self.burst_commands().get(place)?;
         let mut transfer = self.new_transfer(parse_command(word, None));

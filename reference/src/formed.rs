@@ -1,9 +1,8 @@
-//! When a bank is well formed: a statement over the 200 numbers of an image, made from
-//! the papers alone. Nothing of the engine is used.
+//! When a bank is well formed: a statement over the 200 numbers of an image. Nothing of
+//! the engine is used.
 //!
-//! "01" is the scope page, "02" section 3 of the change requests; a clause that names no
-//! other place follows the sentence on it in 01, Numbers that come back, or in 02.
-//! NOTES.md, Well formed, says what was read how.
+//! A clause that names no other place is one of 01, 'Numbers that come back', or of 02 §3.
+//! NOTES.md, Well formed, has the decisions.
 
 use crate::lines::parse_word;
 use std::array;
@@ -31,7 +30,7 @@ pub fn well_formed(words: &[u32]) -> bool {
         && no_burst_in_reset(&bank)
 }
 
-// 01, Numbers that come back.
+// 01, 'Numbers that come back'.
 
 /// What no set-up gives is in no bank: 1 to 1,024 words for a queue, and no fewer than 2
 /// for CMD and SDI; a watermark that its queue can reach; an ID of one byte (01, first
@@ -50,8 +49,8 @@ fn rings_within_capacity(bank: &Bank) -> bool {
         .all(|queue| queue.head < queue.capacity && queue.level <= queue.capacity)
 }
 
-/// No number is larger than the register or field that it stands for (01, Register map,
-/// Commands and receipts). SCRATCH, the part word and the offload memories have all 32
+/// No number is larger than the register or field that it stands for (01, 'Register map',
+/// 'Commands and receipts'). SCRATCH, the part word and the offload memories have all 32
 /// bits; the bytes moved and the burst's place have bounds of their own below.
 fn fields_within_bits(bank: &Bank) -> bool {
     let fits = |number: u32, bits: u32| number >> bits == 0;
@@ -79,7 +78,7 @@ fn one_transfer_at_most(bank: &Bank) -> bool {
 
 /// No more bytes moved than the command asked for; none in an ENTDAA, and none where the
 /// device was not attached. That is noted of a private transfer and a direct CCC alone
-/// (01, Bus events, Start): a broadcast has no device, whatever number stands there.
+/// (01, 'Bus events', start): a broadcast has no device, whatever number stands there.
 fn moved_within_length(bank: &Bank) -> bool {
     let transfer = &bank.transfer;
     let unattached = transfer.kind != BROADCAST_CCC && transfer.attached == 0;
@@ -118,10 +117,10 @@ fn all_clear_in_reset(bank: &Bank) -> bool {
             && bank.transfer.phase == NONE_OPEN
 }
 
-// 02, section 3.
+// 02 §3.
 
-/// An open burst is one that a trigger would not refuse for its mode (8), for a length
-/// of 0 (28), or for a command that is a CCC or longer than 4 bytes (29).
+/// An open burst is one that a trigger would not refuse for its mode, for a length of 0, or
+/// for a command that is a CCC or longer than 4 bytes.
 fn burst_passes_trigger(bank: &Bank) -> bool {
     let commands = bank.burst_commands();
     let mode = bank.ops & 1;
@@ -167,7 +166,7 @@ fn no_burst_in_reset(bank: &Bank) -> bool {
     bank.enable == 0 || bank.burst == 0
 }
 
-// A command word. 01, Commands and receipts.
+// A command word (01, 'Commands and receipts').
 
 fn is_ccc(word: u32) -> bool {
     word >> 22 & 1 == 1

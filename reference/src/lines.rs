@@ -1,9 +1,7 @@
-//! Session lines: parsing, running and printing.
-//!
-//! 01, A session: "W offset value, R offset, S start, T send, X byte, F code, I
-//! address byte, D two words, A".
+//! Session lines: parsing, running and printing (01, 'A session').
 
 use crate::engine::{set_up, Answer, Bank, Call, SetupNumbers, SESSION_NUMBERS};
+use crate::number::DONE;
 use std::io::{self, BufRead, Write};
 
 /// The most reads of a burst, and one word more.
@@ -29,15 +27,15 @@ impl Request {
 /// Which lines are read.
 #[derive(Clone, Copy, Debug, PartialEq, Eq)]
 pub enum Mode {
-    /// The lines of 01.
+    /// Those of a session.
     Session,
-    /// The lines of 01 and `B`, a set-up; `G`, the trigger; `O`, the words lent to
+    /// Those and `B`, a set-up; `G`, the trigger; `O`, the words lent to
     /// the events; `P`, a word of the output.
     Test,
 }
 
-/// The letters of 01's lines. 02, section 1, has the same in a record ("the session
-/// letter"), so both readers ask here.
+/// The letters of a session's lines. A record of a trace has the same ones (02 §1), so both
+/// readers ask here.
 #[derive(Clone, Copy, Debug, PartialEq, Eq)]
 pub(crate) enum Letter {
     W,
@@ -72,8 +70,8 @@ impl Letter {
 /// The longest line that can be a request: `B` and eleven fields of eight digits.
 const LONGEST_REQUEST: usize = 1 + 11 * 9;
 
-/// 01: "hex of either case, at most 4 digits for an offset, 8 for a value or
-/// word, 2 for the rest".
+/// A number without sign or prefix; both cases are taken, and zeros in front count as
+/// digits.
 fn parse_hex(field: &[u8], most_digits: usize) -> Option<u32> {
     if field.is_empty() || field.len() > most_digits {
         return None;
@@ -97,7 +95,8 @@ fn parse_byte(field: &[u8]) -> Option<u8> {
     parse_hex(field, 2).and_then(|value| u8::try_from(value).ok())
 }
 
-/// 01: "one space between fields"; the line comes without its newline.
+/// The call of a session's line, if it is one. Two spaces in a row make an empty field, which
+/// no call has.
 fn parse_call(fields: &[&[u8]]) -> Option<Call> {
     let [[letter], arguments @ ..] = fields else {
         return None;
@@ -180,7 +179,7 @@ fn parse_test_line(fields: &[&[u8]]) -> Option<Request> {
         .or_else(|| parse_show_output(fields).map(Request::ShowOutput))
 }
 
-/// 01: "other lines are skipped": those give no request.
+/// The line comes without its newline. None for one that is passed over.
 pub(crate) fn parse_line(line: &[u8], mode: Mode) -> Option<Request> {
     let fields: Vec<&[u8]> = line.split(|byte| *byte == b' ').collect();
     if let Some(call) = parse_call(&fields) {
@@ -195,9 +194,8 @@ pub(crate) fn parse_line(line: &[u8], mode: Mode) -> Option<Request> {
 /// The bytes of an answer's line: eight digits, a space, two digits, the newline.
 pub(crate) const LINE_BYTES: usize = 8 + 1 + 2 + 1;
 
-/// 01: "prints the value in eight lower-case hex digits, a space and the number
-/// in two decimal digits". By hand and in its place, as `write!` takes longer than most
-/// calls.
+/// The line of an answer, such as `000000a5 00` (01, 'A session'). By hand and in its
+/// place, as `write!` takes longer than most calls.
 pub(crate) fn put_answer(answer: Answer, line: &mut [u8; LINE_BYTES]) {
     debug_assert!(answer.number < 100);
     let digit = |value: u8| b"0123456789abcdef"[usize::from(value)];
@@ -217,8 +215,8 @@ pub(crate) fn print_answer(answer: Answer, output: &mut impl Write) -> io::Resul
     output.write_all(&line)
 }
 
-/// The bank of a session, as it is before its first line. 02, section 1, has the
-/// same for a replay: "on the session's bank".
+/// The bank of a session, as it is before its first line. The replay program has the same
+/// one (02 §1).
 pub(crate) fn session_bank() -> Bank {
     set_up(&SESSION_NUMBERS).0
 }
@@ -231,8 +229,7 @@ struct Program {
 }
 
 impl Program {
-    /// 02: "replay lends an empty one"; so does a session, as no line of it lends
-    /// more.
+    /// No line of a session lends an output, so that it is empty there.
     fn new() -> Program {
         Program {
             bank: session_bank(),
@@ -257,7 +254,7 @@ impl Program {
             }
             Request::ShowOutput(place) => Some(Answer {
                 value: self.output[*place],
-                number: 0,
+                number: DONE,
             }),
         }
     }
@@ -271,8 +268,8 @@ impl Program {
     }
 }
 
-/// 01: "a line ends at a newline or the end of the input". Of a line longer than
-/// any request only enough is kept to see that it is none.
+/// Answers each line as it comes; the last one needs no newline (01, 'A session'). Of a
+/// line longer than any request only enough is kept to see that it is none.
 pub fn run_session(input: impl BufRead, output: &mut impl Write, mode: Mode) -> io::Result<()> {
     let mut program = Program::new();
     let mut line = Vec::with_capacity(LONGEST_REQUEST + 1);
@@ -303,8 +300,7 @@ mod tests {
         String::from_utf8(output).unwrap()
     }
 
-    /// 01: "W offset value, R offset, S start, T send, X byte, F code, I address
-    /// byte, D two words, A".
+    /// The nine letters of 01, 'A session'.
     #[test]
     fn each_kind_of_line() {
         let lines: [(&[u8], Call); 9] = [
@@ -341,8 +337,7 @@ mod tests {
         }
     }
 
-    /// 01: "at most 4 digits for an offset, 8 for a value or word, 2 for the
-    /// rest; one space between fields ...; other lines are skipped".
+    /// Each is near to a call, with one thing wrong.
     #[test]
     fn lines_that_are_no_call() {
         let lines: [&[u8]; 40] = [
@@ -393,8 +388,7 @@ mod tests {
         assert!(!is_request(b"B 4 4 4 4 4 1 3 1 3 3 0"));
     }
 
-    /// 01: "the value in eight lower-case hex digits, a space and the number in two
-    /// decimal digits".
+    /// As the formatter of the standard library would write it.
     #[test]
     fn form_of_an_answer() {
         for number in 0..100 {
@@ -508,9 +502,9 @@ mod tests {
         assert_eq!(run(&input, Mode::Test), "");
     }
 
-    /// 01: "23 with a bank whose every number is 0"; that bank is not well formed.
+    /// The bank of a refused set-up is not well formed, up to the next set-up.
     #[test]
-    fn after_23_every_call_is_21() {
+    fn after_a_refused_set_up_every_call_is_refused() {
         let input =
             b"B 0 0 0 0 0 0 0 0 0 0 0\nR 0\nR 1\nW 40 0\nS\nT\nX 0\nF 10\nI 80 0\nD 0 0\nA\nG\n\
                       B 4 4 4 4 4 1 3 1 3 3 0\nR 40\n";

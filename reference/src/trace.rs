@@ -1,37 +1,29 @@
-//! Bench traces: the file's form, its sections, its records, and their replay.
+//! Bench traces: the file's form, its sections, its records, and their replay (02 §1).
 //!
-//! "02" is section 1 of the change requests here. The program reads a trace as it
-//! comes, so that it can do the records before a wrong length; the other public
-//! functions have the whole file before them and look at its length first.
+//! The program reads a trace as it comes, so that it can do the records before a wrong
+//! length; the other public functions have the whole file before them and look at its
+//! length first.
 
 use crate::engine::{Answer, Bank, Call};
 use crate::lines::{print_answer, put_answer, session_bank, Letter, LINE_BYTES};
+use crate::number::{DONE, NO_SUCH_SECTION, WRONG_MARK, WRONG_RECORD, WRONG_TABLE};
 use std::io::{self, ErrorKind, Read, Write};
 
-// 02, Refusals.
-const WRONG_MARK: u8 = 24;
-const WRONG_CONTENTS: u8 = 25;
-const NO_SUCH_SECTION: u8 = 26;
-const WRONG_RECORD: u8 = 27;
-
-/// 02: "It opens with the four bytes `I3TR`".
 const MARK: &[u8; 4] = b"I3TR";
-/// 02: "a 16-bit section count (1 to 64)"; with the mark before it.
+/// The mark and the count of sections.
 const HEAD_BYTES: usize = MARK.len() + 2;
 const MOST_SECTIONS: usize = 64;
-/// 02: "per section a 32-bit start in file bytes and a 32-bit record count".
+/// A section's start and its count of records.
 const ENTRY_BYTES: usize = 8;
-/// 02: "A record is 12 bytes".
 const RECORD_BYTES: usize = 12;
-/// 02: "file above 16 MiB".
 const MOST_FILE_BYTES: u64 = 16 << 20;
 
-/// What the program reads, and prints, at once: whole records, whole lines. 02:
-/// "with buffers within 64 KiB"; these two have 24 KiB each, and those of the standard
-/// streams, 8 KiB and 1 KiB, come on top.
+/// What the program reads, and prints, at once: whole records, whole lines. These two
+/// buffers have 24 KiB each; those of the standard streams, 8 KiB and 1 KiB, come on top,
+/// and 64 KiB is the bound for all.
 const BATCH_RECORDS: usize = 2048;
 
-// The file's form. 02: "little-endian throughout".
+// The file's form. Every number is little-endian.
 
 /// One row of the contents.
 struct Entry {
@@ -51,31 +43,30 @@ fn entries(table: &[u8]) -> impl Iterator<Item = Entry> + '_ {
 }
 
 /// How many bytes the contents have after the head, which may be cut short and may
-/// have more behind it. 02: "24 mark wrong or cut short, 25 contents wrong".
+/// have more behind it: within the mark that is `WRONG_MARK`, behind it `WRONG_TABLE`.
 fn table_bytes(head: &[u8]) -> Result<usize, u8> {
     let behind_mark = head.strip_prefix(MARK).ok_or(WRONG_MARK)?;
     let [low, high, ..] = *behind_mark else {
-        return Err(WRONG_CONTENTS);
+        return Err(WRONG_TABLE);
     };
     match usize::from(u16::from_le_bytes([low, high])) {
         sections @ 1..=MOST_SECTIONS => Ok(sections * ENTRY_BYTES),
-        _ => Err(WRONG_CONTENTS),
+        _ => Err(WRONG_TABLE),
     }
 }
 
-/// The bytes of a file with these contents. 02: "sections, numbered from 0, follow in
-/// order with no gaps"; 25 too if "the table asks for more than 16 MiB". A start has 32
-/// bits and 64 counts may ask for more, so that the sum has 64.
+/// The bytes of a file with these contents: each section begins where the one before it
+/// ends. A start has 32 bits and 64 counts may ask for more, so that the sum has 64.
 fn file_bytes(table: &[u8]) -> Result<u64, u8> {
     let mut end = (HEAD_BYTES + table.len()) as u64;
     for entry in entries(table) {
         if u64::from(entry.start) != end {
-            return Err(WRONG_CONTENTS);
+            return Err(WRONG_TABLE);
         }
         end += u64::from(entry.count) * RECORD_BYTES as u64;
     }
     if end > MOST_FILE_BYTES {
-        return Err(WRONG_CONTENTS);
+        return Err(WRONG_TABLE);
     }
     Ok(end)
 }
@@ -83,18 +74,17 @@ fn file_bytes(table: &[u8]) -> Result<u64, u8> {
 /// The contents of a whole file, if it is a trace. The records are not looked at.
 fn contents(trace: &[u8]) -> Result<&[u8], u8> {
     let length = table_bytes(trace)?;
-    let table = trace[HEAD_BYTES..].get(..length).ok_or(WRONG_CONTENTS)?;
-    // 02: "too short or too long for them".
+    let table = trace[HEAD_BYTES..].get(..length).ok_or(WRONG_TABLE)?;
     if trace.len() as u64 != file_bytes(table)? {
-        return Err(WRONG_CONTENTS);
+        return Err(WRONG_TABLE);
     }
     Ok(table)
 }
 
-/// 24 or 25 for a whole file, 0 if it is a trace. As with the other calls for a whole
+/// The number of a whole file: `DONE` if it is a trace. As with the other calls for a whole
 /// file, only tests have one, those of `bench/` too: the program meets its length last.
 pub fn check(trace: &[u8]) -> u8 {
-    contents(trace).err().unwrap_or(0)
+    contents(trace).err().unwrap_or(DONE)
 }
 
 fn find_section(trace: &[u8], section: usize) -> Result<&[u8], u8> {
@@ -105,24 +95,24 @@ fn find_section(trace: &[u8], section: usize) -> Result<&[u8], u8> {
     Ok(&behind_start[..entry.count as usize * RECORD_BYTES])
 }
 
-/// A section's records and a number. 02: "Asking for a section hands back that stretch
-/// of the caller's own bytes, uncopied, empty if refused."
+/// A section's records, which are a part of the file lent, and a number. Refused, there
+/// are none.
 pub fn section(trace: &[u8], section: usize) -> (&[u8], u8) {
     match find_section(trace, section) {
-        Ok(records) => (records, 0),
+        Ok(records) => (records, DONE),
         Err(number) => (&trace[..0], number),
     }
 }
 
 // Records.
 
-/// 02: "a byte, address or code above 255" is wrong.
+/// None above 255, as the record is then wrong.
 fn parse_byte(value: u32) -> Option<u8> {
     u8::try_from(value).ok()
 }
 
-/// 02: "the session letter, a zero byte, a 16-bit offset, two 32-bit values; arguments
-/// fill the values in order, unused fields are zero". None if the record is wrong.
+/// Letter, zero, offset and two values; what a letter does not use has to be zero. None if
+/// the record is wrong.
 fn parse_record(record: &[u8; RECORD_BYTES]) -> Option<Call> {
     let &[[letter, 0, low, high], first, second] = record.as_chunks().0 else {
         return None;
@@ -152,16 +142,15 @@ fn parse_record(record: &[u8; RECORD_BYTES]) -> Option<Call> {
     Some(call)
 }
 
-/// The answer to one record; none if it is wrong, and then nothing is done. For 13, 02,
-/// section 3: "replay lends an empty one".
+/// The answer to one record; none if it is wrong, and then nothing is done. The output is
+/// empty (02 §3).
 fn replay_record(record: &[u8; RECORD_BYTES], bank: &mut Bank) -> Option<Answer> {
     parse_record(record).map(|call| bank.call(&call, &mut []))
 }
 
 // Replay of one section.
 
-/// What a replay gives. 02: "its number, how many it did and the last one's answer (0,
-/// 0 if it did none)".
+/// What a replay gives: with no record done the last answer is value 0, number 0.
 #[derive(Clone, Copy, Debug, PartialEq, Eq)]
 pub struct Replay {
     pub number: u8,
@@ -169,16 +158,15 @@ pub struct Replay {
     pub last: Answer,
 }
 
-/// Replays at most `most` records of a section. A record that the bank refuses is done
-/// too: 02 has "the rule that a refusal changes nothing ... for each record by itself",
-/// and names only 27 as a number "where replay stops with the earlier records done".
+/// Replays at most `most` records of a section. A record that the bank refuses is done too
+/// and leaves the bank as it was; only a wrong record stops the replay.
 pub fn replay(trace: &[u8], section: usize, most: usize, bank: &mut Bank) -> Replay {
     let mut replay = Replay {
-        number: 0,
+        number: DONE,
         done: 0,
         last: Answer {
             value: 0,
-            number: 0,
+            number: DONE,
         },
     };
     let records = match find_section(trace, section) {
@@ -221,7 +209,7 @@ fn read_contents(input: &mut impl Read) -> Result<usize, u8> {
     let mut table = [0; MOST_SECTIONS * ENTRY_BYTES];
     let table = &mut table[..length];
     if fill(input, table) < length {
-        return Err(WRONG_CONTENTS);
+        return Err(WRONG_TABLE);
     }
     // The sections have no gaps, so that their records are one row.
     let records = file_bytes(table)? as usize - HEAD_BYTES - length;
@@ -246,8 +234,7 @@ fn replay_batch(
 }
 
 /// Replays so many records as they come, then looks whether the input ends; gives the
-/// number of the whole. 02: "It answers a wrong length when it meets it, after the
-/// records before".
+/// number of the whole. A wrong length shows only there.
 fn replay_records(
     mut count: usize,
     input: &mut impl Read,
@@ -266,25 +253,24 @@ fn replay_records(
             return Ok(WRONG_RECORD);
         }
         if whole < wanted {
-            return Ok(WRONG_CONTENTS);
+            return Ok(WRONG_TABLE);
         }
         count -= wanted;
     }
     match fill(input, &mut [0]) {
-        0 => Ok(0),
-        _ => Ok(WRONG_CONTENTS),
+        0 => Ok(DONE),
+        _ => Ok(WRONG_TABLE),
     }
 }
 
-/// 02: "A program replays all sections of standard input in order on the session's
-/// bank ...; it prints a session line per record and, for 24, 25 or 27, one with value
-/// 0, and ends." Only the output can fail; it gets whole batches and needs no buffer.
+/// The replay program: a line for each record, then one for the trace if it is refused.
+/// Only the output can fail; it gets whole batches and needs no buffer.
 pub fn run_replay(mut input: impl Read, output: &mut impl Write) -> io::Result<()> {
     let number = match read_contents(&mut input) {
         Ok(count) => replay_records(count, &mut input, output)?,
         Err(number) => number,
     };
-    if number != 0 {
+    if number != DONE {
         print_answer(Answer { value: 0, number }, output)?;
     }
     output.flush()

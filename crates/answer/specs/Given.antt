@@ -1,4 +1,4 @@
--- What the code of a call gives, as a step of the ring engine.
+-- Contracts of calls: what code gives, as a step of the ring engine, and what it may ask past the two tests of bank and store.
 use Prim.Native.Nat.{ℕ}
 use mathlib.Core.Path.{_≡_}
 use mathlib.Core.Bool.{true}
@@ -38,7 +38,7 @@ abbrev pub view : State → Heads → Tables → List ℕ → View
 view st h t s = viewRings (controller (bankWith st h t) s (t .output))
 
 -- ── What code gives ───────────────────────────────────────────────────────────────────────────────────────────
--- over the tables, the store and the output that it left
+-- a result, with the tables, the store and the output that the code left
 abbrev pub given : Next → Tables → List ℕ → Step Controller
 given y t s = record { answer = y .answer; next = controller (bankWith (y .state) (y .heads) t) s (t .output) }
 
@@ -52,15 +52,16 @@ abbrev pub refusedNext : State → Heads → ℕ → Next
 refusedNext st h n = record { state = st; heads = h; answer = record { value = 0; number = n } }
 
 -- ── Past the two tests of bank and store ──────────────────────────────────────────────────────────────────────
--- a call, by its decision
+-- the step that a decision gives
 unfoldable pub decided : State → Heads → Tables → List ℕ → Decision → Step Controller
 decided st h t s d = let l = controller (bankWith st h t) s (t .output) in outcome (first d) (effect d) l (settleRings l (effect d))
 
--- an effect, settled
+-- the step that settling an effect gives
 abbrev pub served : State → Heads → Tables → List ℕ → Effect → Step Controller
 served st h t s e = let l = controller (bankWith st h t) s (t .output) in outcome none e l (settleRings l e)
 
--- what the two tests say: the rings are valid, the store has their length, and what is open is well formed
+-- of what the two tests say, what decisions need: the rings are valid (`formed.set-up`), the store has their length (`answer.bank`), and
+-- what is open is well formed
 pub record Open (st : State) (h : Heads) (commands s : List ℕ) : Type 0 where
   pub queues : queuesOk (queuesOf (st .caps) (st .levels) h) ≡ true
   pub size : length s ≡ total (st .caps)

@@ -1,4 +1,5 @@
-// What a call gives: its answer, and the state or the bank after it.
+// What a call gives: its answer, with the state or the bank after it; and, as definitions, which step of the ring
+// engine such a result is. It knows no call.
 ghost use mathlib.Core.Path.{_≡_};
 ghost use Rattle.answer.specs.Given.{nextOf, refusedNext};
 use bank::Answer;
@@ -23,7 +24,7 @@ pub struct Out {
     pub answer: Answer,
 }
 
-// Put together field by field: see `bank::state_with`.
+// What a call gives, put together field by field: see `bank::state_with`.
 pub fn done(
     caps: Counts,
     levels: Counts,
@@ -48,8 +49,8 @@ pub fn done(
     }
 }
 
-// A refusal: the state as it was, value 0. It is put together as a call that is done is: two copies that meet would keep
-// the state in memory.
+// A refusal (`answer.refusal`): the state as it was, and the value 0. It is put together by `done` too: where two ways
+// of making a state meet, the state stays in memory.
 pub fn refuse(st: State, h: Heads, n: u32) -> Next
     ensures { λ r. ⌜ r ≡ refusedNext st h n ⌝ }
 {

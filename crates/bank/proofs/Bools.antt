@@ -1,6 +1,10 @@
--- Facts from tests joined by && and ||.
-use mathlib.Core.Path.{_≡_, refl}
+-- What follows where tests joined by && and || hold, or do not.
+use Prim.Native.Nat.{ℕ, _/_, _%_}
+use native.Mathlib.Omega.{arith}
+use mathlib.Core.Path.{_≡_, refl, ap}
+use lib.Dec.{eqb}
 use mathlib.Core.Bool.{Bool, true, false, _&&_, _||_, true≢false, false≢true}
+use Rattle.bank.specs.Bits.{bit}
 
 pub or-left : (a b : Bool) → (a || b) ≡ false → a ≡ false
 or-left true b e = e
@@ -36,3 +40,7 @@ all-three a b c x y z = true-and (a && b) c (true-and a b x y) z
 
 pub all-five : (a b c d e : Bool) → a ≡ true → b ≡ true → c ≡ true → d ≡ true → e ≡ true → (a && b && c && d && e) ≡ true
 all-five a b c d e v w x y z = true-and (a && b && c && d) e (true-and (a && b && c) d (all-three a b c v w x) y) z
+
+-- a division by 1 cuts nothing
+pub by-one : (v : ℕ) → eqb (v % 2) 1 ≡ bit 0 v
+by-one v = ap (λ (n : ℕ). eqb n 1) (let h : v % 2 ≡ v / 1 % 2 = omega arith in h)

@@ -1,4 +1,4 @@
--- A well-formed bank by its parts; its rings are valid; set-up gives one.
+-- A well-formed bank by its parts; its rings are valid; set-up answered 0 gives one (`formed.kept`).
 use Prim.Native.Nat.{ℕ, _≤_}
 use native.Mathlib.Omega.{arith}
 use mathlib.Core.Path.{_≡_, refl}
@@ -14,7 +14,7 @@ use Rattle.bank.specs.declared.Bank.{Bank}
 use Rattle.bank.specs.declared.Sizes.{Sizes}
 use Rattle.bank.specs.declared.SetUp.{SetUp}
 use Rattle.bank.specs.Queues.{Queues, ring, queuesIn, capsOf}
-use Rattle.bank.specs.SetUp.{sizeOk, capsOk, marksOk, countsOf, sizesOk, bankOf, refused, setUp, total}
+use Rattle.bank.specs.SetUp.{sizeOk, capsOk, marksOk, countsOf, sizesOk, bankOf, refusedSetUp, setUp, total}
 use Rattle.bank.specs.Ready.{Ready}
 use Rattle.bank.specs.Formed.{ringOk, queuesOk, regsOk, flagsOk, phaseOk, openOk, queuesClear, controlClear, resetOk, wellFormed}
 use Rattle.bank.proofs.Bools.{and-true, true-and, three, five, all-three, all-five}
@@ -90,7 +90,7 @@ answered-0 false x y e h = absurd (omega arith)
 -- a set-up answered 0 has its numbers in range
 pub in-range : (c m : Sizes) (id : ℕ) → setUp c m id .answer .number ≡ 0 → (leb id 255 && sizesOk c m) ≡ true
 unfolding setUp
-in-range c m id h = answered-0 (leb id 255 && sizesOk c m) (record { bank = bankOf c m true id; answer = record { value = 0; number = 0 } }) refused refl h
+in-range c m id h = answered-0 (leb id 255 && sizesOk c m) (record { bank = bankOf c m true id; answer = record { value = 0; number = 0 } }) refusedSetUp refl h
 
 pub bank-is : (c m : Sizes) (id : ℕ) → setUp c m id .answer .number ≡ 0 → setUp c m id .bank ≡ bankOf c m true id
 unfolding setUp

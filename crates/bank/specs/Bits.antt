@@ -11,6 +11,6 @@ bit k v = eqb (v / 2 ^ k % 2) 1
 abbrev pub bits : ℕ → ℕ → ℕ → ℕ
 bits hi lo v = v / 2 ^ lo % 2 ^ (suc hi - lo)
 
--- w where b holds, else 0
-abbrev pub weigh : Bool → ℕ → ℕ
-weigh b w = cond b w 0
+-- the weight w where b holds, else 0
+abbrev pub wordIf : Bool → ℕ → ℕ
+wordIf b w = cond b w 0

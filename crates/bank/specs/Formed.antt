@@ -1,4 +1,4 @@
--- When a bank is well formed: 01's sentence "Well formed: ..", clause by clause, and 02 §3's on bursts. What the types of the code already say (an ID below
+-- When a bank is well formed: 01, 'Numbers that come back', and 02 §3 of an open burst. What the types of the code already say (an ID below
 -- 256, 128 flags, 32 bits) is not asked again.
 use Prim.Native.Nat.{ℕ, _-_, _*_, _%_, _^_}
 use mathlib.Core.Bool.{Bool, true, cond, not, _&&_, _||_}
@@ -16,14 +16,14 @@ use Rattle.bank.specs.Bursts.{offloads, span, allCarried, bursting, plac
 use Rattle.bank.specs.Queues.{Queues, queuesIn}
 use Rattle.bank.specs.SetUp.{sizeOk, marksOk}
 
--- "set-up numbers in range; each head below and each level at most its capacity"
+-- `formed.set-up`, of one queue: capacity, first place and level
 abbrev pub ringOk : ℕ → Ring → Bool
 ringOk least r = sizeOk least (r .cap .0) && ltb (r .head) (r .cap .0) && leb (r .level .0) (r .cap .0)
 
 unfoldable pub queuesOk : Queues → Bool
 queuesOk q = ringOk 2 (q .cmd) && ringOk 1 (q .cmdr) && ringOk 1 (q .sdo) && ringOk 2 (q .sdi) && ringOk 1 (q .ibi)
 
--- "every stored field within its bits": OPS 6:0, IBI_CONFIG 1:0, an address of 7 bits, three flags a device
+-- `formed.fields`, of the registers, and of the devices' flags
 unfoldable pub regsOk : Regs → Bool
 regsOk g = ltb (g .ops) 128 && ltb (g .config) 4 && ltb (g .selected) 128
 
@@ -31,16 +31,17 @@ unfoldable pub flagsOk : List ℕ → Bool
 flagsOk [] = true
 flagsOk (f ∷ fs) = ltb f 8 && flagsOk fs
 
--- "at most one open transfer, with bytes moved at most the commanded length .. and between 0 and 3 bytes gathered or left as that
--- count says": so many bytes stand at the top of the part word, and the rest of it is 0. The length has 12 bits.
+-- a transfer whose length has 12 bits (`formed.fields`), with no more bytes moved than `most` (`formed.moved`), and with 0 in its part word
+-- behind the first `parts` bytes (`formed.part`)
 abbrev pub transferOk : Transfer → ℕ → ℕ → Bool
 transferOk t most parts = ltb (t .length .0) 4096 && leb (t .moved .0) most && eqb (t .part % 2 ^ (32 - 8 * parts)) 0
 
+-- the transfer that is open outside a burst; a phase has one at most
 unfoldable pub phaseOk : Phase → Bool
 phaseOk p = transferOk (transfer p) (limit p) (partBytes p)
 
--- 02 §3: "an open burst pass 8, 28 and 29 and stand at one of its commands, with that one's transfer open and its counts as that place
--- says". That it has a command (28) follows from where it stands.
+-- `formed.burst`: mode and commands would pass a trigger's tests, it stands at one of its commands, and that command's transfer is the
+-- open one. That it has a command at all (28) follows from where it stands.
 unfoldable pub burstOk : Control → Regs → Phase → List ℕ → Bool
 burstOk c g p ws =
     offloads g && allCarried (span g) ws && leb (c .burst) (span g) && opens (getD ws (place c) 0) p && transferOk (transfer p) (limit p) (gatheredBytes p)
@@ -48,7 +49,7 @@ burstOk c g p ws =
 unfoldable pub openOk : Control → Regs → Phase → List ℕ → Bool
 openOk c g p ws = cond (bursting c) (burstOk c g p ws) (phaseOk p)
 
--- "in reset all heads, levels, syncs and pending bits 0 and no transfer open"; of a burst "in reset none is open"
+-- `formed.reset`, by parts: queues, control bits, and no transfer
 abbrev pub ringClear : Ring → Bool
 ringClear r = eqb (r .head) 0 && eqb (r .level .0) 0
 
@@ -61,7 +62,7 @@ controlClear c = eqb (c .sync) 0 && eqb (c .ibisync) 0 && not (c .cmdrpending) &
 unfoldable pub resetOk : Control → Phase → Queues → Bool
 resetOk c p q = not (c .held) || (queuesClear q && controlClear c && idle p)
 
--- the watermarks, which are set-up numbers too, stand among the registers
+-- a bank is well formed; the watermarks of `formed.set-up` stand among the registers
 unfoldable pub wellFormed : Bank → Bool
 wellFormed b =
     let s = b .state in

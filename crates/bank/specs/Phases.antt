@@ -1,7 +1,7 @@
--- What a phase says of the open transfer.
+-- What a phase says of the open transfer: whether there is one, its direction, its state in ENTDAA, and how many bytes it may move and
+-- its part word has.
 use Prim.Native.Nat.{ℕ, _-_, _%_}
 use mathlib.Core.Bool.{Bool, true, false, cond, not, _&&_, _||_}
-use lib.Dec.{eqb, leb}
 use Rattle.ring.specs.Units.{bytes}
 use Rattle.bank.specs.declared.Kind.{Kind}
 use Rattle.bank.specs.declared.Kind.the-variants.{Private, Direct, Broadcast}
@@ -9,6 +9,8 @@ use Rattle.bank.specs.declared.Transfer.{Transfer}
 use Rattle.bank.specs.declared.Phase.{Phase}
 use Rattle.bank.specs.declared.Phase.the-variants.{Idle, Writing, Reading, Unrequested, Requested, Answered}
 
+-- its number, for an image
+-- the number of a phase
 abbrev pub stage : Phase → ℕ
 stage Idle = 0
 stage (Writing t) = 1
@@ -18,25 +20,55 @@ stage (Requested t) = 4
 stage (Answered t) = 5
 
 abbrev pub idle : Phase → Bool
-idle p = eqb (stage p) 0
+idle Idle = true
+idle (Writing t) = false
+idle (Reading t) = false
+idle (Unrequested t) = false
+idle (Requested t) = false
+idle (Answered t) = false
 
 abbrev pub writing : Phase → Bool
-writing p = eqb (stage p) 1
+writing Idle = false
+writing (Writing t) = true
+writing (Reading t) = false
+writing (Unrequested t) = false
+writing (Requested t) = false
+writing (Answered t) = false
 
 abbrev pub reading : Phase → Bool
-reading p = eqb (stage p) 2
+reading Idle = false
+reading (Writing t) = false
+reading (Reading t) = true
+reading (Unrequested t) = false
+reading (Requested t) = false
+reading (Answered t) = false
 
--- an address assignment (ENTDAA), in any of its three states
+-- ENTDAA, in any of its three states (E5 of docs/DECISIONS.md)
 abbrev pub assigning : Phase → Bool
-assigning p = leb 3 (stage p)
+assigning Idle = false
+assigning (Writing t) = false
+assigning (Reading t) = false
+assigning (Unrequested t) = true
+assigning (Requested t) = true
+assigning (Answered t) = true
 
--- no request was made since its start
+-- ENTDAA, and no request was made since its start
 abbrev pub unrequested : Phase → Bool
-unrequested p = eqb (stage p) 3
+unrequested Idle = false
+unrequested (Writing t) = false
+unrequested (Reading t) = false
+unrequested (Unrequested t) = true
+unrequested (Requested t) = false
+unrequested (Answered t) = false
 
--- a request is open
+-- ENTDAA, and a request is open
 abbrev pub requested : Phase → Bool
-requested p = eqb (stage p) 4
+requested Idle = false
+requested (Writing t) = false
+requested (Reading t) = false
+requested (Unrequested t) = false
+requested (Requested t) = true
+requested (Answered t) = false
 
 -- the open transfer; where none is open, one of zeros, so that definitions need no case for it
 abbrev pub transfer : Phase → Transfer
@@ -57,15 +89,15 @@ broadcast Private = false
 broadcast Direct = false
 broadcast Broadcast = true
 
--- the device of "a private transfer or direct CCC" was not attached at the start. (Where no transfer is open this says nothing: 7 is
--- tested before it.)
+-- `start.attached`: the transfer has a device, and that was not attached when it opened. Where no transfer is open this says nothing: 7
+-- is tested before it.
 abbrev pub unattached : Phase → Bool
 unattached p = not (assigning p) && not (broadcast (transfer p .kind)) && not (transfer p .attached)
 
--- "bytes moved at most the commanded length (0 for ENTDAA and for an unattached device)"
+-- `formed.moved`: the most bytes that the transfer may have moved
 abbrev pub limit : Phase → ℕ
 limit p = cond (assigning p || unattached p) 0 (transfer p .length .0)
 
--- "between 0 and 3 bytes gathered or left as that count says": gathered of a read, left of a write's last word
+-- `formed.part`: the bytes that the part word has, gathered of a read, still to send of a write
 abbrev pub partBytes : Phase → ℕ
 partBytes p = cond (reading p) (transfer p .moved .0 % 4) ((4 - transfer p .moved .0 % 4) % 4)

@@ -1,4 +1,5 @@
--- The five rings of a bank, in the order of their areas: capacities and levels stand in the state, heads beside it.
+-- The five rings of a bank, in the order of `store.order`, put together from its numbers: capacities and levels in the state, heads beside
+-- it.
 use Prim.Native.Nat.{ℕ}
 use Rattle.ring.specs.declared.Words.{Words}
 use Rattle.ring.specs.declared.Ring.{Ring}
@@ -23,7 +24,7 @@ queuesOf k l h =
 abbrev pub queuesIn : Bank → Queues
 queuesIn b = queuesOf (b .state .caps) (b .state .levels) (b .heads)
 
--- and back
+-- the numbers of five rings
 abbrev pub capsOf : Queues → Counts
 capsOf q = record { cmd = q .cmd .cap; cmdr = q .cmdr .cap; sdo = q .sdo .cap; sdi = q .sdi .cap; ibi = q .ibi .cap }
 

@@ -1,8 +1,10 @@
--- Set-up: 01, sections 'The part of the controller we model' and 'Numbers that come back'.
+-- Set-up: the ranges of its numbers, and the bank and the answer that it gives. 01, 'The part of the controller we model' and 'Numbers that
+-- come back'.
 use Prim.Native.Nat.{ℕ, _+_}
 use mathlib.Core.Bool.{Bool, true, false, cond, _&&_}
 use lib.Dec.{leb}
 use lib.ListN.{replicate}
+use Rattle.number.specs.Names as number
 use Rattle.ring.specs.Units.{words}
 use Rattle.bank.specs.declared.Counts.{Counts}
 use Rattle.bank.specs.declared.Heads.{Heads}
@@ -12,14 +14,14 @@ use Rattle.bank.specs.declared.Bank.{Bank}
 use Rattle.bank.specs.declared.Sizes.{Sizes}
 use Rattle.bank.specs.declared.SetUp.{SetUp}
 
--- "Capacities: CMD and SDI 2 to 1,024, the others 1 to 1,024."
+-- `set-up.numbers`: a capacity, from the least that its queue may have
 abbrev pub sizeOk : ℕ → ℕ → Bool
 sizeOk least cap = leb least cap && leb cap 1024
 
 unfoldable pub capsOk : Counts → Bool
 capsOk k = sizeOk 2 (k .cmd .0) && sizeOk 1 (k .cmdr .0) && sizeOk 1 (k .sdo .0) && sizeOk 2 (k .sdi .0) && sizeOk 1 (k .ibi .0)
 
--- "A watermark is 0 to its queue's capacity"
+-- `set-up.numbers`: watermarks m of queues with the capacities k
 unfoldable pub marksOk : Counts → Counts → Bool
 marksOk m k = leb (m .cmd .0) (k .cmd .0) && leb (m .cmdr .0) (k .cmdr .0) && leb (m .sdo .0) (k .sdo .0) && leb (m .sdi .0) (k .sdi .0) && leb (m .ibi .0) (k .ibi .0)
 
@@ -36,11 +38,11 @@ zeros = record { cmd = 0; cmdr = 0; sdo = 0; sdi = 0; ibi = 0 }
 abbrev pub noHeads : Heads
 noHeads = record { cmd = 0; cmdr = 0; sdo = 0; sdi = 0; ibi = 0 }
 
--- syncs and pending bits 0, no burst open
+-- control bits with syncs and pending bits 0 and no burst open
 abbrev pub cleared : Bool → Control
 cleared held = record { held = held; sync = 0; ibisync = 0; cmdrpending = false; ibipending = false; daapending = false; burst = 0 }
 
--- "registers and device table 0 but for ENABLE and ID"
+-- a bank in which all is 0 but capacities, watermarks, ENABLE and ID
 abbrev pub bankOf : Sizes → Sizes → Bool → ℕ → Bank
 bankOf c m held id =
     record {
@@ -51,14 +53,14 @@ bankOf c m held id =
       payloads = replicate 16 0;
     }
 
--- "23 with a bank whose every number is 0"
-abbrev pub refused : SetUp
-refused = record { bank = bankOf zeros zeros false 0; answer = record { value = 0; number = 23 } }
+-- `set-up.refused`: a bank of zeros, with ENABLE 0 too, and 23
+abbrev pub refusedSetUp : SetUp
+refusedSetUp = record { bank = bankOf zeros zeros false 0; answer = record { value = 0; number = number.setUpOutOfRange } }
 
--- "Set-up gives 0 with a bank held in reset"; "ID is 0 to 255"
+-- `set-up.fresh`: a bank in reset and 0, where all numbers are in range (`set-up.numbers`)
 unfoldable pub setUp : Sizes → Sizes → ℕ → SetUp
-setUp c m id = cond (leb id 255 && sizesOk c m) (record { bank = bankOf c m true id; answer = record { value = 0; number = 0 } }) refused
+setUp c m id = cond (leb id 255 && sizesOk c m) (record { bank = bankOf c m true id; answer = record { value = 0; number = 0 } }) refusedSetUp
 
--- "the sum of the capacities": the length of the store that the queues need
+-- the length of a store for these capacities, else 22 (`answer.bank`)
 abbrev pub total : Counts → ℕ
 total k = k .cmd .0 + k .cmdr .0 + k .sdo .0 + k .sdi .0 + k .ibi .0

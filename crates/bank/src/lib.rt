@@ -1,13 +1,13 @@
-// One controller's state: five queues, the registers, the open transfer, the device table and the offload memories.
+// One controller's state (`bank.one`): the numbers of its queues, registers, control bits, the open transfer, device
+// table and offload memories; what a phase and a burst say of the transfer; and, as definitions, set-up and when a bank
+// is well formed. It knows no call.
 ghost use mathlib.Core.Path.{_≡_};
 ghost use mathlib.Core.Bool.{cond};
 ghost use Prim.Native.Nat.{_+_, _-_};
+ghost use Rattle.bank.specs.Bits.{bit};
 ghost use Rattle.bank.specs.SetUp.{sizeOk, marksOk, cleared, total};
 use ring::Bytes;
 use ring::Words;
-
-pub mod bursts;
-pub mod phases;
 
 // A count of words for each queue: capacities, levels or watermarks.
 pub struct Counts {
@@ -27,8 +27,8 @@ pub struct Heads {
     pub ibi: u32,
 }
 
-// The registers that a reset leaves: ID, SCRATCH, IRQ_MASK, OPS but its bit 7, IBI_CONFIG, the address that DEV_CHAR
-// selects, and the watermarks.
+// The registers that a reset leaves (`enable.keeps`): ID, SCRATCH, IRQ_MASK, OPS but its bit 7, IBI_CONFIG, the address
+// that DEV_CHAR selects, and the watermarks.
 pub struct Regs {
     pub id: u8,
     pub scratch: u32,
@@ -39,9 +39,9 @@ pub struct Regs {
     pub marks: Counts,
 }
 
-// What a reset sets, besides the queues and the transfer: the ENABLE bit, the sync of receipts and that of interrupts,
-// the pending bits 5, 6 and 7, and where an offload burst stands (0 where none is open, else 1 more than the place of the
-// command whose transfer is open).
+// What a reset sets besides the queues and the transfer (`enable.reset`): the ENABLE bit, the sync of receipts and that
+// of interrupts, the pending bits 5, 6 and 7, and where an offload burst stands (0 where none is open, else 1 more than
+// the place of the command whose transfer is open).
 pub struct Control {
     pub held: bool,
     pub sync: u8,
@@ -91,8 +91,9 @@ pub struct State {
     pub phase: Phase,
 }
 
-// 01: "A bank is one controller's state." Beside the rest stand the flags of the 128 devices (bit 0 attached, bit 1 may
-// interrupt, bit 2 sends a data byte), the offload commands and the offload data words.
+// The state of one controller (`bank.one`), without the words of its queues: beside what calls decide by, where the
+// queues lie, the flags of the 128 devices (`device.flags`: bit 0 attached, bit 1 may interrupt, bit 2 sends a data
+// byte), the offload commands and the offload data words.
 pub struct Bank {
     pub state: State,
     pub heads: Heads,
@@ -101,7 +102,7 @@ pub struct Bank {
     pub payloads: [u32; 16],
 }
 
-// 01: "Each call returns a value and a number; the value is 0 where none is named."
+// What a call answers (`answer.pair`).
 pub struct Answer {
     pub value: u32,
     pub number: u32,
@@ -122,14 +123,14 @@ pub struct SetUp {
     pub answer: Answer,
 }
 
-// Whether a capacity is in range.
+// Whether a capacity is in range (`set-up.numbers`).
 pub fn size_ok(least: u32, cap: u32) -> bool
     ensures { λ b. ⌜ b ≡ sizeOk least cap ⌝ }
 {
     (least <= cap) & (cap <= 1024)
 }
 
-// Whether each watermark is at most its queue's capacity.
+// Whether each watermark is at most its queue's capacity (`set-up.numbers`).
 pub fn marks_ok(marks: Counts, caps: Counts) -> bool
     ensures { λ b. ⌜ b ≡ marksOk marks caps ⌝ }
 {
@@ -162,7 +163,7 @@ pub fn select(test: bool, yes: u32, no: u32) -> u32
     if test { yes } else { no }
 }
 
-// One of two answers, by a test.
+// One of two truth values, by a test.
 pub fn choose(test: bool, yes: bool, no: bool) -> bool
     ensures { λ r. ⌜ r ≡ cond test yes no ⌝ }
 {
@@ -183,8 +184,8 @@ pub fn total_of(k: Counts) -> usize
     sum_of_five(k.cmd.0, k.cmdr.0, k.sdo.0, k.sdi.0, k.ibi.0)
 }
 
-// The parts of a state put together field by field: fields that are copied in one piece stay in memory through a list of
-// calls, stored apart and loaded together, which stalls.
+// The parts of a state put together field by field: fields that are copied in one piece stay in memory through a list
+// of calls, stored one by one and loaded together, which stalls.
 pub fn counts_by_field(f: Counts) -> Counts
     ensures { λ r. ⌜ r ≡ f ⌝ }
 {
@@ -254,7 +255,20 @@ pub fn state_with(caps: Counts, levels: Counts, g: Regs, c: Control, p: Phase) -
     }
 }
 
-// The free places of a queue.
+// Whether the lowest bit of a word, or of a byte, is set.
+pub fn low_bit(v: u32) -> bool
+    ensures { λ b. ⌜ b ≡ bit 0 v ⌝ }
+{
+    v % 2 == 1
+}
+
+pub fn byte_low_bit(v: u8) -> bool
+    ensures { λ b. ⌜ b ≡ bit 0 v ⌝ }
+{
+    v % 2 == 1
+}
+
+// The free places of a queue (`room.read`).
 pub fn room(cap: u32, level: u32) -> u32
     ensures { λ n. ⌜ n ≡ cap - level ⌝ }
 {

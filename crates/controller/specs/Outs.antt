@@ -1,4 +1,4 @@
--- What the interface gives: a bank of a state, its heads and its tables.
+-- What the interface gives: the bank that is put together from a state, its heads and its tables, and the answer.
 use Rattle.model.specs.View.{Tables}
 use Rattle.answer.specs.declared.Next.{Next}
 use Rattle.answer.specs.declared.Out.{Out}

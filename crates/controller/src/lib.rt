@@ -1,6 +1,6 @@
-// The interface: `step` over any call, and each call by its name. Every call takes any bank, any store, any output and any
-// argument, and ends with one numbered answer. The output takes the words that a burst reads; without a burst it may be
-// empty.
+// The interface: `step` over any call, and each call by its name (`call.step`). Any bank, store, output and argument is
+// allowed, and every call ends with one answer (`answer.every`). The output takes the words that a burst reads; without
+// a burst it may be empty.
 ghost use mathlib.Core.Path.{_≡_};
 ghost use Rattle.model.specs.declared.Call.the-variants.{Read, Write, Start, Send, Receive, Finish, Interrupt, Request, Take, Trigger};
 ghost use Rattle.model.specs.View.{tables};
@@ -15,7 +15,7 @@ use answer::Out;
 use bank::Bank;
 use model::Call;
 
-// A bank of a state, its heads and its tables.
+// The bank that is put together from a state, its heads and its tables.
 fn with_tables(y: Next, flags: [u8; 128], commands: [u32; 16], payloads: [u32; 16]) -> Out
     ensures { λ r. ⌜ r ≡ nextOut y (tables flags commands payloads []) ⌝ }
 {
@@ -57,7 +57,7 @@ pub fn step(b: Bank, store: &mut [u32], output: &mut [u32], call: Call) -> Out
     with_tables(y, f, c, p)
 }
 
-// A register is read; the value is what it shows.
+// A register is read; the value is what it shows or, of CMDR, SDI and IBI, the word taken.
 pub fn read(b: Bank, store: &mut [u32], offset: u16) -> Out
     ensures { λ y. ⌜ ((o : List ℕ) → givenOut y (now (store .exit)) o ≡ step rings (controller b (now (store .entry)) o) (Read offset)) ⌝ }
 {
@@ -73,56 +73,56 @@ pub fn write(b: Bank, store: &mut [u32], offset: u16, v: u32) -> Out
     step(b, store, &mut none, Call::Write(offset, v))
 }
 
-// The first command of CMD starts; the value is its first word.
+// The first command of CMD starts; the value is its first word (`start.opens`).
 pub fn start(b: Bank, store: &mut [u32], output: &mut [u32]) -> Out
     ensures { λ y. ⌜ givenOut y (now (store .exit)) (now (output .exit)) ≡ step rings (controller b (now (store .entry)) (now (output .entry))) Start ⌝ }
 {
     step(b, store, output, Call::Start)
 }
 
-// A payload byte is sent; it is the value.
+// A payload byte is sent; it is the value (`send.byte`).
 pub fn send(b: Bank, store: &mut [u32], output: &mut [u32]) -> Out
     ensures { λ y. ⌜ givenOut y (now (store .exit)) (now (output .exit)) ≡ step rings (controller b (now (store .entry)) (now (output .entry))) Send ⌝ }
 {
     step(b, store, output, Call::Send)
 }
 
-// A payload byte is received.
+// A payload byte is received (`receive.byte`).
 pub fn receive(b: Bank, store: &mut [u32], output: &mut [u32], byte: u8) -> Out
     ensures { λ y. ⌜ givenOut y (now (store .exit)) (now (output .exit)) ≡ step rings (controller b (now (store .entry)) (now (output .entry))) (Receive byte) ⌝ }
 {
     step(b, store, output, Call::Receive(byte))
 }
 
-// The open transfer ends with a code; the value is its receipt, in a burst 0.
+// The open transfer ends with a code; the value is its receipt (`finish.receipt`), in a burst 0 (`burst.finish`).
 pub fn finish(b: Bank, store: &mut [u32], output: &mut [u32], code: u8) -> Out
     ensures { λ y. ⌜ givenOut y (now (store .exit)) (now (output .exit)) ≡ step rings (controller b (now (store .entry)) (now (output .entry))) (Finish code) ⌝ }
 {
     step(b, store, output, Call::Finish(code))
 }
 
-// A device asks for an interrupt; the value is the entry queued.
+// A device asks for an interrupt; the value is the entry (`interrupt.entry`).
 pub fn interrupt(b: Bank, store: &mut [u32], output: &mut [u32], address: u8, byte: u8) -> Out
     ensures { λ y. ⌜ givenOut y (now (store .exit)) (now (output .exit)) ≡ step rings (controller b (now (store .entry)) (now (output .entry))) (Interrupt address byte) ⌝ }
 {
     step(b, store, output, Call::Interrupt(address, byte))
 }
 
-// A device asks for an address, with two words.
+// A device asks for an address, with two words (`request.opens`).
 pub fn request(b: Bank, store: &mut [u32], output: &mut [u32], v: u32, w: u32) -> Out
     ensures { λ y. ⌜ givenOut y (now (store .exit)) (now (output .exit)) ≡ step rings (controller b (now (store .entry)) (now (output .entry))) (Request v w) ⌝ }
 {
     step(b, store, output, Call::Request(v, w))
 }
 
-// The device takes its address from SDO; the value is the address, the number 0, or 19 for a wrong parity bit.
+// An address is taken from SDO and is the value; the number is 0, or 19 for a wrong parity bit (`take.address`).
 pub fn take_address(b: Bank, store: &mut [u32], output: &mut [u32]) -> Out
     ensures { λ y. ⌜ givenOut y (now (store .exit)) (now (output .exit)) ≡ step rings (controller b (now (store .entry)) (now (output .entry))) Take ⌝ }
 {
     step(b, store, output, Call::Take)
 }
 
-// An offload burst is triggered: its first transfer opens.
+// An offload burst begins: its first transfer opens (`trigger.opens`).
 pub fn trigger(b: Bank, store: &mut [u32], output: &mut [u32]) -> Out
     ensures { λ y. ⌜ givenOut y (now (store .exit)) (now (output .exit)) ≡ step rings (controller b (now (store .entry)) (now (output .entry))) Trigger ⌝ }
 {

@@ -1,4 +1,5 @@
-// Any call, decided on the rings of a bank.
+// Any call, decided on the rings of a bank: 18 (`answer.range`), then by `offload` where it is an event in an open
+// burst, else by `outside`.
 ghost use mathlib.Core.Path.{_≡_};
 ghost use mathlib.Core.Bool.{not};
 ghost use mathlib.Core.List.{List};
@@ -11,11 +12,10 @@ ghost use Rattle.answer.specs.Given.{view, Open};
 ghost use Rattle.effect.specs.Effects.{effectOf, verdict};
 use bank::Heads;
 use bank::State;
-use bank::bursts;
 use effect::Effect;
 use model::Call;
 
-// Whether an argument of a call is out of its range: a code above 15, an address above 127.
+// Whether an argument of a call is out of its range (`answer.range`).
 fn is_misfit(call: Call) -> bool
     ensures { λ b. ⌜ b ≡ misfit call ⌝ }
 {
@@ -51,8 +51,8 @@ fn is_event(call: Call) -> bool
     }
 }
 
-// Any call. 18 is tested here, once. An event in an open burst then goes apart, so that the others need not carry where a
-// burst stands.
+// Any call. 18 is tested here, once. An event in an open burst then goes a way of its own, so that the code of the
+// others need not hold where a burst stands.
 pub fn decide(
     st: State,
     h: Heads,
@@ -67,9 +67,9 @@ pub fn decide(
     ensures { λ e. ⌜ ((o : List ℕ) → length o ≡ len → (let t = tables (now (flags .entry)) (now (commands .entry)) (now (payloads .entry)) o in effectOf e t ≡ verdict (λ v. decide v call) (view st h t (now (store .entry))))) ⌝ }
 {
     if is_misfit(call) {
-        return effect::refuse(st, 18);
+        return effect::refuse(st, number::OUT_OF_RANGE);
     }
-    if bursts::is_bursting(st.control) & is_event(call) {
+    if burst_commands::is_bursting(st.control) & is_event(call) {
         return offload::event(st, flags, commands, payloads, len, call);
     }
     outside::call(st, h, flags, commands, payloads, store, len, call)

@@ -1,4 +1,4 @@
--- What the code of a decision gives, as an effect; and a decision as one effect.
+-- Contracts of decisions: what code gives, as an effect of the model, and what a definition decides, as one effect.
 use Prim.Native.Nat.{ℕ}
 use mathlib.Core.Bool.{cond}
 use mathlib.Core.Option.{Option, none, some}
@@ -41,11 +41,11 @@ abbrev pub verdictBy : Option ℕ → View → Effect → Effect
 verdictBy (some n) s e = unchanged s withNumber n
 verdictBy none s e = e
 
--- as one effect: a refusal changes nothing
+-- a decision as one effect: a refusal changes nothing (`answer.refusal`)
 unfoldable pub verdict : (View → Decision) → View → Effect
 verdict d s = verdictBy (first (d s)) s (effect (d s))
 
--- the number of the first test that holds, 0 where none does
+-- `answer.order`: the number of the first test that holds, 0 where none does
 abbrev pub number : Decision → ℕ
 number (does e) = 0
 number (b ⇒ n ∣ d) = cond b n (number d)

@@ -1,4 +1,5 @@
--- A view by what code sees: the state, the tables, and the first two words of each queue. No engine.
+-- A view put together from what code sees, for contracts that hold for any engine: the state, the tables, and the first two words of each
+-- queue.
 use Prim.Native.Nat.{ℕ}
 use lib.ListN.{getD}
 use Rattle.ring.specs.declared.Words.{Words}

@@ -1,8 +1,9 @@
-// What a call decides, as a value: the answer and the state after it, one operation for each queue, and one for a table.
-// Whoever settles an effect moves queues and tables by it. No engine is here: an effect says nothing of where queues lie.
+// What a call decides, as a value: the answer and the state after it, one operation for each queue, and one for a
+// table; and the first tests of events, 5, 6 and 7. It knows the definitions of calls and no engine: an effect says
+// nothing of where queues lie, and `settle` moves queues and tables by it.
 ghost use mathlib.Core.Path.{_≡_};
 ghost use mathlib.Core.Bool.{cond, not};
-ghost use lib.Dec.{eqb};
+ghost use Rattle.number.specs.Names as number;
 ghost use Rattle.model.specs.View.{Tables, each};
 ghost use Rattle.model.specs.Decision.{keep, clear, push, keepAll, unchanged, _withNumber_};
 ghost use Rattle.effect.specs.Effects.{opOf, opsOf, tablesBy, effectOf};
@@ -12,7 +13,6 @@ use bank::Control;
 use bank::Phase;
 use bank::Regs;
 use bank::State;
-use bank::phases;
 
 // What happens to a queue.
 pub enum Op {
@@ -25,7 +25,7 @@ pub enum Op {
     Push2(u32, u32),
 }
 
-// What happens to the five queues; nothing to any of them where `any` does not hold, which spares looking at each.
+// What happens to the five queues. Where `any` does not hold nothing happens to any of them, and none is looked at.
 pub struct Ops {
     pub any: bool,
     pub cmd: Op,
@@ -44,7 +44,7 @@ pub enum Table {
     Output(u32, u32),
 }
 
-// The levels of the state are as they were: the operations say how they move.
+// An effect. The levels of its state are as before the call: the operations say how they move.
 pub struct Effect {
     pub state: State,
     pub answer: Answer,
@@ -54,22 +54,33 @@ pub struct Effect {
 
 // ── Tests that events share ────────────────────────────────────────────────────────────────────────────────────
 
-// The number of an event that runs an open transfer: 5 in reset, 7 where none is open, then `n`.
-pub fn while_open(held: bool, at: u32, n: u32) -> u32
-    ensures { λ r. ⌜ r ≡ cond held 5 (cond (eqb at 0) 7 n) ⌝ }
+// The number of an event that runs an open transfer: 5 in reset (`event.reset`), 7 where none is open (`event.open`),
+// then `n`.
+pub fn while_open(held: bool, idle: bool, n: u32) -> u32
+    ensures { λ r. ⌜ r ≡ cond held number.heldInReset (cond idle number.noTransfer n) ⌝ }
 {
-    bank::select(held, 5, bank::select(at == phases::IDLE, 7, n))
+    bank::select(
+        held,
+        number::HELD_IN_RESET,
+        bank::select(idle, number::NO_TRANSFER, n),
+    )
 }
 
-// The number of an event that begins where none is open: 5 in reset, 6 where one is, then `n`.
-pub fn while_idle(held: bool, at: u32, n: u32) -> u32
-    ensures { λ r. ⌜ r ≡ cond held 5 (cond (not (eqb at 0)) 6 n) ⌝ }
+// The number of an event that begins where none is open: 5 in reset (`event.reset`), 6 where one is (`event.open`),
+// then `n`.
+pub fn while_idle(held: bool, idle: bool, n: u32) -> u32
+    ensures { λ r. ⌜ r ≡ cond held number.heldInReset (cond (not idle) number.transferOpen n) ⌝ }
 {
-    bank::select(held, 5, bank::select(!(at == phases::IDLE), 6, n))
+    bank::select(
+        held,
+        number::HELD_IN_RESET,
+        bank::select(!idle, number::TRANSFER_OPEN, n),
+    )
 }
 
 // ── Operations ─────────────────────────────────────────────────────────────────────────────────────────────────
 
+// No operation on any queue.
 pub fn none() -> Ops
     ensures { λ o. ⌜ opsOf o ≡ keepAll ⌝ }
 {
@@ -83,6 +94,7 @@ pub fn none() -> Ops
     }
 }
 
+// All queues cleared, by a reset (`enable.reset`).
 pub fn clear_all() -> Ops
     ensures { λ o. ⌜ opsOf o ≡ each clear clear clear clear clear ⌝ }
 {
@@ -96,7 +108,7 @@ pub fn clear_all() -> Ops
     }
 }
 
-// One operation on one queue, where it comes.
+// One operation on one queue, where `comes` holds; else none.
 pub fn on_cmd(comes: bool, o: Op) -> Ops
     ensures { λ r. ⌜ opsOf r ≡ each (cond comes (opOf o) keep) keep keep keep keep ⌝ }
 {
@@ -171,7 +183,7 @@ fn push_if(comes: bool, w: u32) -> Op
     Op::Keep
 }
 
-// A receipt, and the last word of a read where it comes.
+// A receipt to CMDR, and where `comes` holds the part word of a read to SDI (`finish.receipt`).
 pub fn receipt_and(receipt: u32, comes: bool, w: u32) -> Ops
     ensures { λ r. ⌜ opsOf r ≡ each keep (push receipt) keep (cond comes (push w) keep) keep ⌝ }
 {
@@ -186,7 +198,7 @@ pub fn receipt_and(receipt: u32, comes: bool, w: u32) -> Ops
     }
 }
 
-// One entry of a table, where it comes.
+// One entry of a table, where `comes` holds; else none.
 pub fn table_if(comes: bool, t: Table) -> Table
     ensures { λ r. ⌜ ((x : Tables) → tablesBy r x ≡ cond comes (tablesBy t x) x) ⌝ }
 {
@@ -224,7 +236,7 @@ pub fn done_with(
     }
 }
 
-// One that leaves the tables.
+// An effect that leaves the tables.
 pub fn done(st: State, value: u32, number: u32, g: Regs, c: Control, p: Phase, o: Ops) -> Effect
     ensures { λ e. ⌜ ((x : Tables) → effectOf e x ≡ record { value = value; number = number; regs = g; control = c; phase = p; tables = x; ops = opsOf o }) ⌝ }
 {
@@ -232,7 +244,7 @@ pub fn done(st: State, value: u32, number: u32, g: Regs, c: Control, p: Phase, o
     done_with(st, value, number, g, c, p, o, t)
 }
 
-// A refusal: nothing changes.
+// A refusal, which changes nothing (`answer.refusal`).
 pub fn refuse(st: State, n: u32) -> Effect
     ensures { λ e. ⌜ ((t : Tables) (f : Fronts) → effectOf e t ≡ (unchanged (seen st t f) withNumber n)) ⌝ }
 {

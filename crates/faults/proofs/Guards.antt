@@ -1,4 +1,4 @@
--- A call that the two tests of bank and store refuse, or pass; and that no call changes what they say.
+-- `answer.bank`, `formed.kept`: a call that the two tests of bank and store refuse, or pass; and that no call changes what they say.
 use Prim.Native.Nat.{ℕ, zero, suc}
 use native.Mathlib.Omega.{arith}
 use mathlib.Core.Path.{_≡_, refl, ap, sym}

@@ -1,4 +1,5 @@
-// The end of a transfer outside a burst, as a decision, behind the test of the code.
+// The finish outside a burst, as a decision (`finish.tests`, `finish.receipt`), of a code that passed 18. It knows the
+// state and the code.
 ghost use mathlib.Core.Path.{_≡_};
 ghost use mathlib.Core.Bool.{true};
 ghost use Prim.Native.Nat.{_≤_, _<_};
@@ -11,42 +12,42 @@ ghost use Rattle.effect.specs.Seen.{Fronts, seen};
 use bank::Control;
 use bank::Phase;
 use bank::State;
-use bank::phases;
 use effect::Effect;
 
-// Whether a part-filled word is left to push.
+// Whether bytes of a read are left that fill no word: that word goes to SDI (`finish.receipt`).
 fn is_padded(p: Phase) -> bool
     ensures { λ r. ⌜ r ≡ padded p ⌝ }
 {
     let t = phases::transfer_of(p);
     let words = ring::words_for(t.moved);
-    (phases::stage_of(p) == phases::READING) & (t.moved.0 / 4 < words.0)
+    phases::is_reading(p) & (t.moved.0 / 4 < words.0)
 }
 
-// The number of a finish, 0 where none of its tests holds.
+// The number of a finish, 0 where none of its tests holds (`finish.tests`).
 fn finish_number(st: State, code: u8) -> u32
     ensures { λ n. ⌜ ((t : Tables) (f : Fronts) → n ≡ number (finish (seen st t f) code)) ⌝ }
 {
     let p = st.phase;
-    let at = phases::stage_of(p);
+    let idle = phases::is_idle(p);
     let ends = endings::is_allowed(p, code);
     let pads = is_padded(p);
     let k = st.caps;
     let l = st.levels;
     let full = (k.cmdr.0 <= l.cmdr.0) | (pads & (k.sdi.0 <= l.sdi.0));
-    let n = bank::select(full, 13, 0);
-    let n = bank::select(!ends, 14, n);
-    effect::while_open(st.control.held, at, n)
+    let n = bank::select(full, number::NO_ROOM, 0);
+    let n = bank::select(!ends, number::ENDING_NOT_ALLOWED, n);
+    effect::while_open(st.control.held, idle, n)
 }
 
+// The receipt of a transfer (`receipt.word`).
 fn receipt(code: u8, moved: u32, sync: u8) -> u32
     requires { ⌜ (code ≤ 15) × (moved < 4096) ⌝ }
     ensures { λ r. ⌜ r ≡ receiptWord code moved sync ⌝ }
 {
-    code as u32 * 0x100000 + moved * 256 + sync as u32
+    code as u32 * 0x100000 + moved * 0x100 + sync as u32
 }
 
-// A receipt more is queued.
+// One receipt more: the next sync (`receipt.sync`), and pending bit 5 (`source.receipt`).
 fn counted(c: Control) -> Control
     ensures { λ r. ⌜ r ≡ receipted c ⌝ }
 {
@@ -56,7 +57,7 @@ fn counted(c: Control) -> Control
     next
 }
 
-// The open transfer ends with a code.
+// The open transfer ends with a code; its receipt is the value (`finish.receipt`).
 pub fn finish(st: State, code: u8) -> Effect
     requires { ⌜ (phaseOk (st .phase) ≡ true) × (code ≤ 15) ⌝ }
     ensures { λ e. ⌜ ((t : Tables) (f : Fronts) → effectOf e t ≡ verdict (λ v. finish v code) (seen st t f)) ⌝ }

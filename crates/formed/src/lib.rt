@@ -1,23 +1,23 @@
-// Whether a bank is well formed.
+// Whether a bank is well formed, from its parts: `formed_ranges`, `formed_reset`, `formed_transfer`, `formed_burst`.
 ghost use mathlib.Core.Path.{_≡_};
 ghost use Rattle.bank.specs.Formed.{openOk, wellFormed};
 use bank::Bank;
 use bank::Control;
 use bank::Phase;
 use bank::Regs;
-use bank::bursts;
 
 // Whether what is open, a burst or a transfer alone, is well formed. Without a burst no command is looked at.
 fn open_ok(c: Control, g: Regs, p: Phase, commands: &[u32; 16]) -> bool
     ensures { λ b. ⌜ b ≡ openOk c g p (now (commands .entry)) ⌝ }
 {
-    if !bursts::is_bursting(c) {
+    if !burst_commands::is_bursting(c) {
         return formed_transfer::phase_ok(p);
     }
     formed_burst::burst_ok(c, g, p, commands)
 }
 
-// Whether a bank is well formed, as 01 says it.
+// Whether a bank is well formed: `formed.set-up`, `formed.fields`, `formed.moved`, `formed.part`, `formed.reset`,
+// `formed.burst`.
 pub fn well_formed(b: Bank) -> bool
     ensures { λ r. ⌜ r ≡ wellFormed b ⌝ }
 {

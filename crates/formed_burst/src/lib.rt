@@ -1,4 +1,5 @@
-// Whether what an open burst stands for fits its commands: its mode, its place and the transfer of its command.
+// A part of well formed: the mode and the commands of an open burst, the place where it stands, and the transfer of the
+// command there (`formed.burst`).
 ghost use mathlib.Core.Path.{_≡_};
 ghost use lib.ListN.{getD};
 ghost use Rattle.bank.specs.Bursts.{place};
@@ -6,10 +7,8 @@ ghost use Rattle.bank.specs.Formed.{burstOk};
 use bank::Control;
 use bank::Phase;
 use bank::Regs;
-use bank::bursts;
-use bank::phases;
 
-// The place of the command that a burst stands at.
+// The place of the command whose transfer is open.
 fn place_of(c: Control) -> usize
     ensures { λ k. ⌜ k ≡ place c ⌝ }
 {
@@ -29,17 +28,18 @@ fn word_at(words: &[u32], k: usize) -> u32
     0
 }
 
+// Whether an open burst is well formed.
 pub fn burst_ok(c: Control, g: Regs, p: Phase, commands: &[u32; 16]) -> bool
     ensures { λ b. ⌜ b ≡ burstOk c g p (now (commands .entry)) ⌝ }
 {
-    let span = bursts::span_of(g);
+    let span = burst_commands::span_of(g);
     let at = c.burst as usize;
     let k = place_of(c);
     let w = word_at(commands, k);
     let t = phases::transfer_of(p);
-    bursts::is_offload(g)
-        & bursts::all_carried(commands, span)
+    burst_commands::is_offload(g)
+        & burst_commands::all_carried(commands, span)
         & (at <= span)
-        & bursts::is_open(w, p)
-        & formed_transfer::transfer_ok(t, phases::limit_of(p), bursts::gathered_bytes(p))
+        & burst_commands::is_open(w, p)
+        & formed_transfer::transfer_ok(t, phases::limit_of(p), burst_commands::gathered_bytes(p))
 }

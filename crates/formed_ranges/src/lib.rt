@@ -1,4 +1,5 @@
-// Whether rings, registers and device flags are in range.
+// A part of well formed: rings (`formed.set-up`), registers and device flags (`formed.fields`) are in range. It knows
+// neither the open transfer nor a burst.
 ghost use mathlib.Core.Path.{_≡_};
 ghost use Rattle.bank.specs.Queues.{ring, queuesOf};
 ghost use Rattle.bank.specs.Formed.{ringOk, queuesOk, regsOk, flagsOk};
@@ -7,12 +8,14 @@ use bank::Heads;
 use bank::Regs;
 use ring::Words;
 
+// Whether capacity, head and level of one queue are in range (`formed.set-up`).
 fn ring_ok(least: u32, cap: Words, head: u32, level: Words) -> bool
     ensures { λ b. ⌜ b ≡ ringOk least (ring cap head level) ⌝ }
 {
     bank::size_ok(least, cap.0) & (head < cap.0) & (level.0 <= cap.0)
 }
 
+// Whether those of all five are in range.
 pub fn queues_ok(k: Counts, l: Counts, h: Heads) -> bool
     ensures { λ b. ⌜ b ≡ queuesOk (queuesOf k l h) ⌝ }
 {
@@ -23,13 +26,14 @@ pub fn queues_ok(k: Counts, l: Counts, h: Heads) -> bool
         & ring_ok(1, k.ibi, h.ibi, l.ibi)
 }
 
+// Whether OPS, IBI_CONFIG and the selected address are in range (`formed.fields`).
 pub fn regs_ok(g: Regs) -> bool
     ensures { λ b. ⌜ b ≡ regsOk g ⌝ }
 {
     (g.ops < 128) & (g.config < 4) & (g.selected < 128)
 }
 
-// By the largest flag byte: a loop without an early exit, which compiles to a vector maximum.
+// Whether all flag bytes are in range, by the largest: a loop without an early exit compiles to a vector maximum.
 pub fn flags_ok(flags: [u8; 128]) -> bool
     ensures { λ b. ⌜ b ≡ flagsOk flags ⌝ }
 {

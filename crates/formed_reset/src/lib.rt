@@ -1,4 +1,5 @@
-// Whether a bank in reset is as a reset leaves it.
+// A part of well formed: in reset the queues are empty, no transfer and no burst is open, and syncs and pending bits
+// are 0 (`formed.reset`).
 ghost use mathlib.Core.Path.{_≡_};
 ghost use Rattle.bank.specs.declared.Counts.{Counts};
 ghost use Rattle.bank.specs.Queues.{queuesOf};
@@ -7,9 +8,8 @@ use bank::Control;
 use bank::Counts;
 use bank::Heads;
 use bank::Phase;
-use bank::phases;
 
-// Heads and levels 0. Capacities are not asked.
+// Whether heads and levels are 0. Capacities are not asked.
 fn queues_clear(l: Counts, h: Heads) -> bool
     ensures { λ b. ⌜ ((k : Counts) → b ≡ queuesClear (queuesOf k l h)) ⌝ }
 {
@@ -21,6 +21,7 @@ fn queues_clear(l: Counts, h: Heads) -> bool
         & ((h.ibi == 0) & (l.ibi.0 == 0))
 }
 
+// Whether syncs and pending bits are 0 and no burst is open.
 fn control_clear(c: Control) -> bool
     ensures { λ b. ⌜ b ≡ controlClear c ⌝ }
 {
@@ -32,8 +33,9 @@ fn control_clear(c: Control) -> bool
         & (c.burst == 0)
 }
 
+// Whether a bank is released, or is as `formed.reset` asks.
 pub fn reset_ok(c: Control, p: Phase, l: Counts, h: Heads) -> bool
     ensures { λ b. ⌜ ((k : Counts) → b ≡ resetOk c p (queuesOf k l h)) ⌝ }
 {
-    !c.held | (queues_clear(l, h) & control_clear(c) & (phases::stage_of(p) == phases::IDLE))
+    !c.held | (queues_clear(l, h) & control_clear(c) & phases::is_idle(p))
 }

@@ -18,7 +18,6 @@ use answer::Out;
 use bank::Answer;
 use bank::Bank;
 use bank::Sizes;
-use bank::bursts;
 use effect::Effect;
 
 // A set-up, whose bank is written into the image where it is done.
@@ -73,8 +72,8 @@ fn triggered(b: Bank, store: usize, output: usize) -> Out
     }
     let f = b.flags;
     let c = b.commands;
-    if bursts::is_bursting(b.state.control) {
-        let lacks = trigger::is_lacking(b.state.regs, &c, output);
+    if burst_commands::is_bursting(b.state.control) {
+        let lacks = trigger::is_output_short(b.state.regs, &c, output);
         let barred = offload::bar(b.state, lacks, 6);
         return settled(b, barred);
     }

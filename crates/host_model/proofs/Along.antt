@@ -13,7 +13,7 @@ use Rattle.bank.proofs.Laws.{in-range, bank-is}
 use Rattle.model.specs.declared.Call.{Call}
 use Rattle.model.specs.Engine.{Lent, step, stepLent, final, answers}
 use Rattle.model.specs.Rings.{Controller, rings}
-use Rattle.model.specs.Laws.{StaysWellFormed, SetUpWellFormed, fresh}
+use Rattle.model.specs.Laws.{StaysWellFormed, SetUpWellFormed, freshController}
 use Rattle.model.proofs.Simulation.{stays-well-formed, set-up-well-formed}
 use Rattle.answer.specs.Given.{controller}
 use Rattle.letters.specs.declared.Parsed.the-variants.{Named}
@@ -56,4 +56,4 @@ pub hosted-from-set-up : HostedFromSetUp
 unfolding HostedFromSetUp SetUpWellFormed
 hosted-from-set-up ws caps marks id store cs n z =
     ap (λ (f : Fresh). hostRan (f .image) store cs) (sym (set-up-done ws caps marks id n z))
-    ∙ along cs (fresh caps marks id store) (fresh-typed caps marks id z) (set-up-well-formed caps marks id z)
+    ∙ along cs (freshController caps marks id store) (fresh-typed caps marks id z) (set-up-well-formed caps marks id z)

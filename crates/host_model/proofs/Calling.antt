@@ -10,7 +10,7 @@ use borrow.Author.Tests.{ne-eqb, le-ltb, leb-false, leb-true}
 use Rattle.bank.proofs.Bools.{and-true}
 use Rattle.model.specs.declared.Call.the-variants.{Trigger}
 use Rattle.letters.specs.declared.Parsed.the-variants.{Named, Skipped}
-use Rattle.letters.specs.Forms.{Form, forms, find, formOf}
+use Rattle.letters.specs.Forms.{Form, forms, formWith, formOf}
 use Rattle.record_model.specs.Record.{Record, rec, namedIn, recordAt, hasOffset, fits}
 use Rattle.record_model.specs.Writer.{recordBytes}
 use Rattle.record_model.proofs.Writing.{fields-read}
@@ -18,7 +18,7 @@ use Rattle.host_model.specs.Host.{triggers, callOf}
 
 -- no letter is above 255
 no-letter : (l : ℕ) → 255 < l → formOf l ≡ none
-unfolding forms find
+unfolding forms formWith
 no-letter l h =
     rw (
       ne-eqb l 0x57 (λ e. omega (arith, e, h)),

@@ -14,7 +14,7 @@ use Rattle.bank.specs.SetUp.{setUp}
 use Rattle.bank.specs.Formed.{wellFormed}
 use Rattle.model.specs.Engine.{Lent, stepLent, final}
 use Rattle.model.specs.Rings.{Controller, rings}
-use Rattle.model.specs.Laws.{StaysWellFormed, SetUpWellFormed, fresh}
+use Rattle.model.specs.Laws.{StaysWellFormed, SetUpWellFormed, freshController}
 use Rattle.model.specs.Demand.{other, event, Tally, follow, tally, Demand}
 use Rattle.model.proofs.Simulation.{stays-well-formed, set-up-well-formed}
 use Rattle.model.proofs.Demand.{demand}
@@ -98,7 +98,7 @@ pub host-keeps-demand : HostKeepsDemand
 unfolding HostKeepsDemand Demand SetUpWellFormed
 host-keeps-demand ws caps marks id store qs t z e =
     let n = answered-0 ws caps marks id z in
-    let l = fresh caps marks id store in
+    let l = freshController caps marks id store in
     let cs = named qs in
     let f = final rings l cs in
     let typed = fresh-typed caps marks id (n .1) in

@@ -17,9 +17,9 @@ use Rattle.faults.proofs.Guards.{refuses}
 use Rattle.letters.specs.declared.Parsed.{Parsed}
 use Rattle.letters.specs.declared.Parsed.the-variants.{Named, Skipped}
 use Rattle.trace_model.specs.Format.{lookNumber, sectionStart, section}
-use Rattle.record_model.specs.Record.{onward, each, recordAt}
-use Rattle.playback_model.specs.declared.Told.{Told}
-use Rattle.playback_model.specs.Replay.{Replay, begun, did, wrong, played}
+use Rattle.record_model.specs.Record.{onward, eachRecord, recordAt}
+use Rattle.playback_model.specs.declared.Report.{Report}
+use Rattle.playback_model.specs.Replay.{Replay, replayBegun, did, wrong, played}
 use Rattle.image_model.specs.Image.{imageOf, bankIn, encoded, isImage}
 use Rattle.image_model.proofs.Words.{same-eq}
 use Rattle.host_model.specs.Host.{setUpIn, Hosted, hosted, refusal, stepIn, tells, toldIn, placedIn, sectionIn}
@@ -53,10 +53,10 @@ module _ (ws : List ℕ) (caps marks : Sizes) (id : ℕ) where
 -- ── One call ──────────────────────────────────────────────────────────────────────────────────────────────────
 -- what one record does, and what it left as a call
 abbrev pub oneOf : Parsed → Controller → Replay
-oneOf p l = onward did wrong p (begun 0 l) (λ r. r)
+oneOf p l = onward did wrong p (replayBegun 0 l) (λ r. r)
 
 pub one-record : (bytes : List ℕ) (l : Controller) → length bytes ≡ 12 → played 1 bytes l ≡ oneOf (recordAt bytes 0) l
-unfolding each
+unfolding eachRecord
 one-record bytes l n = rw n refl
 
 abbrev pub hostedBy : Replay → Hosted
@@ -101,7 +101,7 @@ module _ (ws st o : List ℕ) where
     one-wrong Skipped r e z = (ap (λ (x : Replay). x .left) e, no-call)
 
 -- ── What is told, in lent words ───────────────────────────────────────────────────────────────────────────────
-module _ (t : Told) (ts : List ℕ) where
+module _ (t : Report) (ts : List ℕ) where
   pub untold : tells (t .number) ≡ false → ts ≡ toldIn t ts
   untold e = rw e
 

@@ -22,11 +22,11 @@ use Rattle.letters.specs.Forms.{formOf}
 use Rattle.trace_model.specs.Format.{lookNumber, sectionStart, section}
 use Rattle.trace_model.proofs.Sections.{refused, found, handed, handed-length, within}
 use Rattle.record_model.specs.Record as records
-use Rattle.record_model.specs.Record.{rec, namedIn, recordAt, each, onward}
+use Rattle.record_model.specs.Record.{rec, namedIn, recordAt, eachRecord, onward}
 use Rattle.record_model.specs.Writer.{recordOf}
 use Rattle.record_model.specs.Done.{anyWrong}
 use Rattle.record_model.proofs.Writing.{call-named}
-use Rattle.playback_model.specs.Replay.{Replay, begun, did, wrong, replayOf}
+use Rattle.playback_model.specs.Replay.{Replay, replayBegun, did, wrong, replayOf}
 use Rattle.playback_model.specs.Done.{wanted, EveryReplay, all21, IllFormedReplay}
 use Rattle.playback_model.proofs.Laws.{refuses, plays}
 use Rattle.playback_model.proofs.Done.{every-replay}
@@ -139,10 +139,10 @@ refused-replay-stays file i limit ws st ts z w = go (lookNumber file i) refl
     go zero e = absurd (told-done (anyWrong (wanted file i limit)) n (r .number) e (ap (λ (x : Replay). x .told .number) (every-replay file i limit l)) z w)
     go (suc x) e =
         let h : n ≡ 0 → ⊥ = λ k. omega (arith, e, k) in
-        let b : begun n l ≡ replayOf file i limit l = refuses file i limit l n refl h in
+        let b : replayBegun n l ≡ replayOf file i limit l = refuses file i limit l n refl h in
         let m : n ≡ r .number = ap (λ (x : Replay). x .told .number) b in
         let k : tells n ≡ false = rw (ne-eqb n 0 h, ne-eqb n 27 (λ y. w (sym m ∙ y))) in
-        ap (leftBy ws ts) (sym b) ∙ (λ j. record { number = m j; image = same-image ws j; store = st; told = sym (untold (begun n l .told) ts k) j })
+        ap (leftBy ws ts) (sym b) ∙ (λ j. record { number = m j; image = same-image ws j; store = st; told = sym (untold (replayBegun n l .told) ts k) j })
 
 pub refused-section-stays : RefusedSectionStays
 unfolding RefusedSectionStays sectionIn
@@ -163,12 +163,12 @@ short file i = go (lookNumber file i) refl
         omega (arith, r)
 
 -- records done are at most those to do
-counted : (n : ℕ) (bytes : List ℕ) (i : ℕ) (a : Replay) → each did wrong n bytes i a .told .count ≤ a .told .count + n
-unfolding each
+counted : (n : ℕ) (bytes : List ℕ) (i : ℕ) (a : Replay) → eachRecord did wrong n bytes i a .told .count ≤ a .told .count + n
+unfolding eachRecord
 counted zero bytes i a = omega arith
 counted (suc n) bytes i a = go (recordAt bytes i) (λ b. counted n bytes (suc i) b)
   where
-    go : (p : Parsed) → ((b : Replay) → each did wrong n bytes (suc i) b .told .count ≤ b .told .count + n) → onward did wrong p a (each did wrong n bytes (suc i)) .told .count ≤ a .told .count + suc n
+    go : (p : Parsed) → ((b : Replay) → eachRecord did wrong n bytes (suc i) b .told .count ≤ b .told .count + n) → onward did wrong p a (eachRecord did wrong n bytes (suc i)) .told .count ≤ a .told .count + suc n
     go (Named k) rest = let h = rest (did k a) in omega (arith, h)
     go Skipped rest = omega arith
 
@@ -185,7 +185,7 @@ few-done file i limit l = go (lookNumber file i) refl
     go : (x : ℕ) → lookNumber file i ≡ x → replayOf file i limit l .told .count ≤ 0x1000000
     go zero e =
         let r = ap (λ (x : Replay). x .told .count) (plays file i limit l (section file i) refl e) in
-        let n = counted (records.within limit (section file i)) (section file i) 0 (begun 0 l) in
+        let n = counted (records.within limit (section file i)) (section file i) 0 (replayBegun 0 l) in
         let k = few limit (section file i) in
         let s = short file i in
         omega (arith, r, n, k, s)

@@ -10,7 +10,7 @@ use Rattle.bank.specs.SetUp.{setUp}
 use Rattle.bank.specs.Formed.{wellFormed}
 use Rattle.model.specs.Engine.{Lent, answers, final}
 use Rattle.model.specs.Rings.{Controller, rings}
-use Rattle.model.specs.Laws.{fresh}
+use Rattle.model.specs.Laws.{freshController}
 use Rattle.letters.specs.declared.Parsed.the-variants.{Named}
 use Rattle.image_model.specs.Image.{size, imageOf}
 use Rattle.image_model.specs.Laws.{inTypes}
@@ -43,4 +43,4 @@ HostedAlong = (l : Controller) (cs : List Lent) → inTypes (l .bank) ≡ true �
 -- from a set-up into any 200 words, with any store
 unfoldable pub HostedFromSetUp : Type 0
 HostedFromSetUp = (ws : List ℕ) (caps marks : Sizes) (id : ℕ) (store : List ℕ) (cs : List Lent) → length ws ≡ size → setUp caps marks id .answer .number ≡ 0
-    → hostRan (setUpIn ws caps marks id .image) store cs ≡ modelRan (fresh caps marks id store) cs
+    → hostRan (setUpIn ws caps marks id .image) store cs ≡ modelRan (freshController caps marks id store) cs

@@ -7,7 +7,7 @@ use lib.ListN.{length, set}
 use Rattle.bank.specs.declared.Answer.{Answer}
 use Rattle.bank.specs.declared.Bank.{Bank}
 use Rattle.bank.specs.declared.Sizes.{Sizes}
-use Rattle.bank.specs.SetUp.{refused, setUp}
+use Rattle.bank.specs.SetUp.{refusedSetUp, setUp}
 use Rattle.model.specs.declared.Call.the-variants.{Trigger}
 use Rattle.model.specs.Engine.{Step, step}
 use Rattle.model.specs.Rings.{Controller, rings}
@@ -17,7 +17,7 @@ use Rattle.letters.specs.declared.Parsed.the-variants.{Named, Skipped}
 use Rattle.letters.specs.Forms.{formOf}
 use Rattle.trace_model.specs.Format.{lookNumber, sectionStart, section}
 use Rattle.record_model.specs.Record.{rec, namedIn}
-use Rattle.playback_model.specs.declared.Told.{Told}
+use Rattle.playback_model.specs.declared.Report.{Report}
 use Rattle.playback_model.specs.Replay.{Replay, replayOf}
 use Rattle.image_model.specs.Image.{size, imageOf, bankIn, isImage}
 
@@ -77,7 +77,7 @@ pub record Replayed : Type 0 where
 -- on the bank that an image says. Words that are no image stand for the bank of a refused set-up: it is not well formed, so each record
 -- is answered 21, as `stepIn` answers its call
 abbrev pub bankFor : List ℕ → Bank
-bankFor ws = cond (isImage ws) (bankIn ws) (refused .bank)
+bankFor ws = cond (isImage ws) (bankIn ws) (refusedSetUp .bank)
 
 -- an image takes the bank that the records left, other words stay
 abbrev pub imageAfter : List ℕ → Bank → List ℕ
@@ -88,7 +88,7 @@ abbrev pub tells : ℕ → Bool
 tells n = eqb n 0 || eqb n 27
 
 -- how many records it did, value and number of its last answer: a lent word that is not there is not written. The remainder cuts nothing (`NothingCut`)
-abbrev pub toldIn : Told → List ℕ → List ℕ
+abbrev pub toldIn : Report → List ℕ → List ℕ
 toldIn t ts = cond (tells (t .number)) (set (set (set ts 0 (t .count % 2 ^ 32)) 1 (t .answer .value)) 2 (t .answer .number)) ts
 
 abbrev pub leftBy : List ℕ → List ℕ → Replay → Replayed

@@ -8,7 +8,7 @@ ghost use Rattle.bank.specs.Formed.{wellFormed};
 ghost use Rattle.host_model.specs.Host.{triggers, packedOf, toldIn, placedIn};
 use bank::Answer;
 use bank::Bank;
-use playback_model::Told;
+use playback_model::Report;
 
 // A value in the low half, its number in the high half.
 pub fn packed(a: Answer) -> u64
@@ -31,7 +31,7 @@ pub fn refused(number: u32) -> u64
 pub fn no_call(b: Bank) -> u64
     ensures { λ r. ⌜ r ≡ packedOf (record { value = 0; number = cond (wellFormed b) 27 21 }) ⌝ }
 {
-    refused(bank::select(formed::well_formed(b), 27, 21))
+    refused(bank::select(formed::well_formed(b), number::WRONG_RECORD, 21))
 }
 
 // Whether numbers fit a record, and whether they are the trigger's.
@@ -57,7 +57,7 @@ fn put(ws: &mut [u32], i: usize, w: u32)
 }
 
 // What a replay tells, in lent memory, where records may have been done; its number.
-pub fn tell(t: Told, told: &mut [u32]) -> u32
+pub fn tell(t: Report, told: &mut [u32]) -> u32
     ensures { λ n. ⌜ (n ≡ t .number) × (now (told .exit) ≡ toldIn t (now (told .entry))) ⌝ }
 {
     let n = t.number;

@@ -17,14 +17,14 @@ use Rattle.bank.specs.declared.Phase.the-variants.{Idle, Writing, Reading, Unre
 use Rattle.bank.specs.declared.State.{State}
 use Rattle.bank.specs.declared.Heads.{Heads}
 use Rattle.bank.specs.declared.Bank.{Bank}
-use Rattle.bank.specs.Bits.{weigh}
+use Rattle.bank.specs.Bits.{wordIf}
 use Rattle.bank.specs.Phases.{stage, transfer}
 use Rattle.bank.specs.Formed.{flagsOk}
 use Rattle.bank.proofs.Bools.{and-true}
 use Rattle.image_model.specs.Image.{kindNumber, stateWords, imageOf, kindIn, phaseIn, stateIn, headsIn, part, lowBytes, bankIn}
 
 -- ── Fields ────────────────────────────────────────────────────────────────────────────────────────────────────
-bit-back : (b : Bool) → eqb (weigh b 1) 1 ≡ b
+bit-back : (b : Bool) → eqb (wordIf b 1) 1 ≡ b
 bit-back true = refl
 bit-back false = refl
 
@@ -38,7 +38,7 @@ kind-back Broadcast = refl
 
 -- a transfer by its own numbers
 abbrev again : Transfer → Transfer
-again t = record { kind = kindIn (kindNumber (t .kind)); header = eqb (weigh (t .header) 1) 1; length = t .length; moved = t .moved; attached = eqb (weigh (t .attached) 1) 1; part = t .part }
+again t = record { kind = kindIn (kindNumber (t .kind)); header = eqb (wordIf (t .header) 1) 1; length = t .length; moved = t .moved; attached = eqb (wordIf (t .attached) 1) 1; part = t .part }
 
 again-is : (t : Transfer) → again t ≡ t
 again-is t = λ i. record { kind = kind-back (t .kind) i; header = bit-back (t .header) i; length = t .length; moved = t .moved; attached = bit-back (t .attached) i; part = t .part }

@@ -17,7 +17,7 @@ use Rattle.bank.specs.declared.Phase.{Phase}
 use Rattle.bank.specs.declared.Phase.the-variants.{Idle, Writing, Reading, Unrequested, Requested, Answered}
 use Rattle.bank.specs.declared.State.{State}
 use Rattle.bank.specs.declared.Bank.{Bank}
-use Rattle.bank.specs.Bits.{weigh}
+use Rattle.bank.specs.Bits.{wordIf}
 use Rattle.bank.specs.Phases.{stage, transfer}
 use Rattle.bank.specs.Formed.{wellFormed}
 
@@ -35,7 +35,7 @@ regWords g = g .id ∷ g .scratch ∷ g .mask ∷ g .ops ∷ g .config ∷ g .se
 -- a flag is 1 or 0
 abbrev pub controlWords : Control → List ℕ
 controlWords c =
-    weigh (c .held) 1 ∷ c .sync ∷ c .ibisync ∷ weigh (c .cmdrpending) 1 ∷ weigh (c .ibipending) 1 ∷ weigh (c .daapending) 1 ∷ c .burst ∷ []
+    wordIf (c .held) 1 ∷ c .sync ∷ c .ibisync ∷ wordIf (c .cmdrpending) 1 ∷ wordIf (c .ibipending) 1 ∷ wordIf (c .daapending) 1 ∷ c .burst ∷ []
 
 abbrev pub kindNumber : Kind → ℕ
 kindNumber Private = 0
@@ -44,7 +44,7 @@ kindNumber Broadcast = 2
 
 abbrev pub transferWords : Transfer → List ℕ
 transferWords t =
-    kindNumber (t .kind) ∷ weigh (t .header) 1 ∷ t .length .0 ∷ t .moved .0 ∷ weigh (t .attached) 1 ∷ t .part ∷ []
+    kindNumber (t .kind) ∷ wordIf (t .header) 1 ∷ t .length .0 ∷ t .moved .0 ∷ wordIf (t .attached) 1 ∷ t .part ∷ []
 
 -- the number of the phase, then its transfer; where none is open, zeros
 abbrev pub phaseWords : Phase → List ℕ

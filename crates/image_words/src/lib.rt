@@ -7,7 +7,6 @@ ghost use Rattle.image_model.specs.Image.{kindNumber, stateWords};
 use bank::Heads;
 use bank::Kind;
 use bank::State;
-use bank::phases;
 
 fn kind_number(k: Kind) -> u32
     ensures { λ n. ⌜ n ≡ kindNumber k ⌝ }

@@ -1,4 +1,4 @@
--- What a call in place leaves: the bank, the store and the output where they lie, and its answer.
+-- `call.in-place`: what a call leaves where bank, store and output lie, with its answer, as a step of the ring engine.
 use Prim.Native.Nat.{ℕ}
 use mathlib.Core.List.{List}
 use Rattle.bank.specs.declared.Bank.{Bank}

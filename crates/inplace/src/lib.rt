@@ -1,4 +1,5 @@
-// The bank changed where it lies: thin calls over the by-value interface. A host keeps one bank per board and lends it.
+// Calls on a bank that is changed where it lies (`call.in-place`): each copies the bank, makes the call of the
+// interface and stores the result back.
 ghost use Prim.Native.Nat.{ℕ};
 ghost use mathlib.Core.Path.{_≡_};
 ghost use mathlib.Core.List.{List};
@@ -11,7 +12,7 @@ use bank::Answer;
 use bank::Bank;
 use model::Call;
 
-// A register is read, on a bank that is changed where it lies; whatever output is lent, it is as it was.
+// A register is read. No output is lent: whatever one is, it stays as it was.
 pub fn read_in_place(bank: &mut Bank, store: &mut [u32], offset: u16) -> Answer
     ensures { λ r. ⌜ ((o : List ℕ) → left (now (bank .exit)) r (now (store .exit)) o ≡ step rings (controller (now (bank .entry)) (now (store .entry)) o) (Read offset)) ⌝ }
 {
@@ -20,7 +21,7 @@ pub fn read_in_place(bank: &mut Bank, store: &mut [u32], offset: u16) -> Answer
     out.answer
 }
 
-// A register is written.
+// A register is written. No output is lent, as above.
 pub fn write_in_place(bank: &mut Bank, store: &mut [u32], offset: u16, v: u32) -> Answer
     ensures { λ r. ⌜ ((o : List ℕ) → left (now (bank .exit)) r (now (store .exit)) o ≡ step rings (controller (now (bank .entry)) (now (store .entry)) o) (Write offset v)) ⌝ }
 {

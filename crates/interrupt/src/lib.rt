@@ -1,4 +1,5 @@
-// Interrupt requests, as a decision, behind the test of the address.
+// Interrupt requests, as a decision (`interrupt.tests`, `interrupt.entry`), of an address that passed 18. It knows the
+// state and the flags of that device.
 ghost use mathlib.Core.Path.{_≡_};
 ghost use mathlib.Core.Bool.{cond};
 ghost use Prim.Native.Nat.{ℕ};
@@ -10,41 +11,41 @@ ghost use Rattle.effect.specs.Effects.{effectOf, verdict, number};
 ghost use Rattle.effect.specs.Seen.{Fronts, seen};
 use bank::Control;
 use bank::State;
-use bank::phases;
 use effect::Effect;
 use effect::Op;
 
-// The number of an interrupt request from an address that has the flags `f`, 0 where none of its tests holds.
+// The number of an interrupt request from a device with the flags `f`, 0 where none of its tests holds
+// (`interrupt.tests`).
 fn interrupt_number(st: State, f: u8) -> u32
     ensures { λ n. ⌜ ((t : Tables) (x : Fronts) (address byte : ℕ) → f ≡ getD (t .flags) address 0 → n ≡ number (interrupt (seen st t x) address byte)) ⌝ }
 {
     let p = st.phase;
     let config = st.regs.config;
-    let at = phases::stage_of(p);
+    let idle = phases::is_idle(p);
     let listens = config / 2 % 2 == 1;
-    let admits = (config / 1 % 2 == 1) & (f / 1 % 2 == 1) & (f / 2 % 2 == 1);
+    let admits = bank::byte_low_bit(config) & bank::byte_low_bit(f) & (f / 2 % 2 == 1);
     let full = st.caps.ibi.0 <= st.levels.ibi.0;
-    let n = bank::select(full, 13, 0);
-    let n = bank::select(!admits, 17, n);
-    let n = bank::select(!listens, 16, n);
-    effect::while_idle(st.control.held, at, n)
+    let n = bank::select(full, number::NO_ROOM, 0);
+    let n = bank::select(!admits, number::NOT_ACKNOWLEDGED, n);
+    let n = bank::select(!listens, number::NOT_HEARD, n);
+    effect::while_idle(st.control.held, idle, n)
 }
 
-// The data byte of an entry, 0 where the device sends none.
+// The data byte of an entry, 0 where the device sends none (`interrupt.entry`).
 fn data_byte(sends: bool, byte: u8) -> u8
     ensures { λ r. ⌜ r ≡ cond sends byte 0 ⌝ }
 {
     if sends { byte } else { 0 }
 }
 
-// The entry of an interrupt.
+// The entry of an interrupt (`entry.word`).
 fn entry(address: u8, byte: u8, sync: u8) -> u32
     ensures { λ w. ⌜ w ≡ entryWord address byte sync ⌝ }
 {
-    address as u32 * 131072 + byte as u32 * 256 + sync as u32
+    address as u32 * 0x20000 + byte as u32 * 0x100 + sync as u32
 }
 
-// An interrupt accepted: the next sync, and pending bit 6.
+// An interrupt accepted: the next sync of entries, and pending bit 6 (`source.interrupt`).
 fn accept(c: Control) -> Control
     ensures { λ r. ⌜ r ≡ interrupted c ⌝ }
 {
@@ -54,7 +55,8 @@ fn accept(c: Control) -> Control
     next
 }
 
-// An interrupt request of the device at an address, which has the flags `f`.
+// An interrupt request of the device at an address, which has the flags `f`; its entry is the value
+// (`interrupt.entry`).
 pub fn interrupt(st: State, f: u8, address: u8, byte: u8) -> Effect
     ensures { λ e. ⌜ ((t : Tables) (x : Fronts) → f ≡ getD (t .flags) address 0 → effectOf e t ≡ verdict (λ v. interrupt v address byte) (seen st t x)) ⌝ }
 {

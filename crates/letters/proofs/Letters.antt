@@ -4,15 +4,15 @@ use mathlib.Core.Path.{_≡_, refl}
 use mathlib.Core.List.{List, [], _∷_}
 use mathlib.Core.Option.{none}
 use borrow.Author.Tests.{ne-eqb}
-use Rattle.letters.specs.Forms.{Form, forms, find, formOf}
+use Rattle.letters.specs.Forms.{Form, forms, formWith, formOf}
 
 -- that l is the letter of no row, as a `match` tells it
 abbrev AbsentFrom : Type 0 → ℕ → List Form → Type 0
 AbsentFrom acc l [] = acc
 AbsentFrom acc l (f ∷ fs) = AbsentFrom (acc × (l ≡ f .letter → ⊥)) l fs
 
-absent-from : (l : ℕ) (acc : Type 0) (t : List Form) → AbsentFrom acc l t → (find l t ≡ none) × acc
-unfolding find
+absent-from : (l : ℕ) (acc : Type 0) (t : List Form) → AbsentFrom acc l t → (formWith l t ≡ none) × acc
+unfolding formWith
 absent-from l acc [] h = (refl, h)
 absent-from l acc (f ∷ fs) h =
     let ih = absent-from l (acc × (l ≡ f .letter → ⊥)) fs h in

@@ -1,38 +1,62 @@
--- The letters of 01, section 'A session': which fields a letter has, and which call it names.
-use Prim.Native.Nat.{ℕ, _%_}
-use mathlib.Core.Bool.{cond}
+-- The nine letters of lines and of records (`session.lines`, `trace.record`): the fields that a letter has, and its call.
+use Prim.Native.Nat.{ℕ}
+use Prim.Native.Char.{code}
+use mathlib.Core.Bool.{Bool, true, false, cond}
 use mathlib.Core.List.{List, [], _∷_}
 use mathlib.Core.Option.{Option, none, some}
 use lib.Dec.{eqb}
 use Rattle.model.specs.declared.Call.{Call}
 use Rattle.model.specs.declared.Call.the-variants.{Read, Write, Start, Send, Receive, Finish, Interrupt, Request, Take}
 
--- a letter, the most hex digits of each of its fields, and its call by the values of the field before the last and the last
+-- how many hex digits a field may have, by what it holds: a byte, an address or a code; a value or a word; nothing, where the letter does not use it
+abbrev pub byte : ℕ
+byte = 2
+
+abbrev pub word : ℕ
+word = 8
+
+abbrev pub unused : ℕ
+unused = 0
+
+-- the fields of a letter, in their order: whether it has an offset, and what its first and its second value are
+pub record Fields : Type 0 where
+  pub offset : Bool
+  pub first : ℕ
+  pub second : ℕ
+
+abbrev pub fields : Bool → ℕ → ℕ → Fields
+fields o v w = record { offset = o; first = v; second = w }
+
+-- an offset has up to four digits
+abbrev pub offsetDigits : Fields → ℕ
+offsetDigits fs = cond (fs .offset) 4 unused
+
+-- a letter, its fields, and its call by offset, first value and second value
 pub record Form : Type 0 where
   pub letter : ℕ
-  pub fields : List ℕ
-  pub call : ℕ → ℕ → Call
+  pub fields : Fields
+  pub call : ℕ → ℕ → ℕ → Call
 
-abbrev pub form : ℕ → List ℕ → (ℕ → ℕ → Call) → Form
-form l f c = record { letter = l; fields = f; call = c }
+abbrev pub form : ℕ → Bool → ℕ → ℕ → (ℕ → ℕ → ℕ → Call) → Form
+form l o v w c = record { letter = l; fields = fields o v w; call = c }
 
--- "W offset value, R offset, S start, T send, X byte, F code, I address byte, D two words, A", "at most 4 digits for an offset, 8 for a value or word, 2 for the rest": a field of 4 digits is below 0x10000, one of 2 below 0x100, and no remainder here cuts it. "The trigger has no letter."
+-- letter, whether it has an offset, first value, second value, call. The trigger has no letter.
 unfoldable pub forms : List Form
 forms =
-    form 0x57 (4 ∷ 8 ∷ []) (λ v w. Write (v % 0x10000) w)
-    ∷ form 0x52 (4 ∷ []) (λ v w. Read (w % 0x10000))
-    ∷ form 0x53 [] (λ v w. Start)
-    ∷ form 0x54 [] (λ v w. Send)
-    ∷ form 0x58 (2 ∷ []) (λ v w. Receive (w % 0x100))
-    ∷ form 0x46 (2 ∷ []) (λ v w. Finish (w % 0x100))
-    ∷ form 0x49 (2 ∷ 2 ∷ []) (λ v w. Interrupt (v % 0x100) (w % 0x100))
-    ∷ form 0x44 (8 ∷ 8 ∷ []) (λ v w. Request v w)
-    ∷ form 0x41 [] (λ v w. Take)
+    form (code "W") true word unused (λ o v w. Write o v)
+    ∷ form (code "R") true unused unused (λ o v w. Read o)
+    ∷ form (code "S") false unused unused (λ o v w. Start)
+    ∷ form (code "T") false unused unused (λ o v w. Send)
+    ∷ form (code "X") false byte unused (λ o v w. Receive v)
+    ∷ form (code "F") false byte unused (λ o v w. Finish v)
+    ∷ form (code "I") false byte byte (λ o v w. Interrupt v w)
+    ∷ form (code "D") false word word (λ o v w. Request v w)
+    ∷ form (code "A") false unused unused (λ o v w. Take)
     ∷ []
 
-unfoldable pub find : ℕ → List Form → Option Form
-find l [] = none
-find l (f ∷ fs) = let r = find l fs in cond (eqb l (f .letter)) (some f) r
+unfoldable pub formWith : ℕ → List Form → Option Form
+formWith l [] = none
+formWith l (f ∷ fs) = let r = formWith l fs in cond (eqb l (f .letter)) (some f) r
 
 abbrev pub formOf : ℕ → Option Form
-formOf l = find l forms
+formOf l = formWith l forms

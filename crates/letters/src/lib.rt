@@ -1,4 +1,4 @@
-// The letters of 01's session: which call a letter names, by the values of its fields. Lines and records of a trace share them.
+// The letters of lines and of a trace's records: which call a letter names, by the values of its fields.
 ghost use mathlib.Core.Path.{_≡_};
 ghost use Rattle.letters.specs.Forms.{formOf};
 ghost use Rattle.letters.specs.Named.{namedBy};
@@ -10,7 +10,7 @@ pub enum Parsed {
     Skipped,
 }
 
-// The call of a letter, by the values of its fields.
+// The call of a letter, by the values of its last field and of the field before it. No field's value is cut.
 pub fn call(letter: u8, v: u32, w: u32) -> Parsed
     ensures { λ p. ⌜ p ≡ namedBy (formOf letter) v w ⌝ }
 {

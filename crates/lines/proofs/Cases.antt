@@ -3,11 +3,11 @@ use mathlib.Core.Path.{_≡_, refl}
 use mathlib.Core.List.{[], _∷_, map}
 use Rattle.model.specs.declared.Call.the-variants.{Read, Write, Start, Send, Receive, Finish, Interrupt, Request, Take}
 use Rattle.letters.specs.declared.Parsed.the-variants.{Named, Skipped}
-use Rattle.letters.specs.Forms.{forms, find}
-use Rattle.lines.specs.Lines.{parsedOf}
+use Rattle.letters.specs.Forms.{forms, formWith}
+use Rattle.lines.specs.Lines.{before, behind, allHex, lineNames}
 
 -- `W 0040 00000000`, `W 0180 00001102`, `W 00dc a5c30000`, `W 00d4 00000210`, `S`, `T`, `F 0`, `R 00d8`, `X fF`, `I 8 5A`, `D FFFFffff 1`, `A`, `W 4 0`
-pub taken : map parsedOf (
+pub taken : map lineNames (
     (0x57 ∷ 0x20 ∷ 0x30 ∷ 0x30 ∷ 0x34 ∷ 0x30 ∷ 0x20 ∷ 0x30 ∷ 0x30 ∷ 0x30 ∷ 0x30 ∷ 0x30 ∷ 0x30 ∷ 0x30 ∷ 0x30 ∷ [])
     ∷ (0x57 ∷ 0x20 ∷ 0x30 ∷ 0x31 ∷ 0x38 ∷ 0x30 ∷ 0x20 ∷ 0x30 ∷ 0x30 ∷ 0x30 ∷ 0x30 ∷ 0x31 ∷ 0x31 ∷ 0x30 ∷ 0x32 ∷ [])
     ∷ (0x57 ∷ 0x20 ∷ 0x30 ∷ 0x30 ∷ 0x64 ∷ 0x63 ∷ 0x20 ∷ 0x61 ∷ 0x35 ∷ 0x63 ∷ 0x33 ∷ 0x30 ∷ 0x30 ∷ 0x30 ∷ 0x30 ∷ [])
@@ -23,11 +23,11 @@ pub taken : map parsedOf (
     ∷ (0x57 ∷ 0x20 ∷ 0x34 ∷ 0x20 ∷ 0x30 ∷ [])
     ∷ [])
     ≡ Named (Write 0x40 0) ∷ Named (Write 0x180 0x1102) ∷ Named (Write 0xdc 0xa5c30000) ∷ Named (Write 0xd4 0x210) ∷ Named Start ∷ Named Send ∷ Named (Finish 0) ∷ Named (Read 0xd8) ∷ Named (Receive 0xff) ∷ Named (Interrupt 8 0x5a) ∷ Named (Request 0xffffffff 1) ∷ Named Take ∷ Named (Write 4 0) ∷ []
-unfolding forms find
+unfolding forms formWith before behind allHex
 taken = refl
 
 -- one row each: no byte; a lower-case letter; a space or a carriage return after the letter or before it; a field left out or bare; two spaces; a tab; a trailing space; five digits; a field too many; no hex digit; the second field left out or bare or of nine digits; two spaces before it; three digits; one word; a field where there is none; the bytes 0 and 1; two letters; no space; another letter
-pub skipped : map parsedOf (
+pub skipped : map lineNames (
     ([])
     ∷ (0x73 ∷ [])
     ∷ (0x53 ∷ 0x20 ∷ [])
@@ -55,5 +55,5 @@ pub skipped : map parsedOf (
     ∷ (0x5a ∷ [])
     ∷ [])
     ≡ Skipped ∷ Skipped ∷ Skipped ∷ Skipped ∷ Skipped ∷ Skipped ∷ Skipped ∷ Skipped ∷ Skipped ∷ Skipped ∷ Skipped ∷ Skipped ∷ Skipped ∷ Skipped ∷ Skipped ∷ Skipped ∷ Skipped ∷ Skipped ∷ Skipped ∷ Skipped ∷ Skipped ∷ Skipped ∷ Skipped ∷ Skipped ∷ Skipped ∷ []
-unfolding forms find
+unfolding forms formWith before behind allHex
 skipped = refl

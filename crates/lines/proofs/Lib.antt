@@ -1,6 +1,5 @@
 pub mod Choices
 pub mod Digits
 pub mod Cases
-pub mod Fields
-pub mod Shapes
+pub mod Grammar
 pub mod Bytes

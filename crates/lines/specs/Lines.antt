@@ -1,61 +1,73 @@
--- What a line names, 01, section 'A session': read byte by byte, so that no line need be held and every line, of any length, is read alike.
-use Prim.Native.Nat.{ℕ, _+_, _-_, _*_, _%_}
-use mathlib.Core.Bool.{Bool, true, false, cond, _&&_}
-use mathlib.Core.List.{List, foldl}
+-- What a line names (`session.lines`; L1 to L3): a letter, then each field that the letter has, with one blank before it and of one to so many hex digits as it may have; nothing else. What is no such line names no call.
+use Prim.Native.Nat.{ℕ, zero, suc, _+_, _-_, _*_}
+use Prim.Native.Char.{code}
+use mathlib.Core.Bool.{Bool, true, cond, _&&_}
+use mathlib.Core.List.{List, [], _∷_, foldl}
 use mathlib.Core.Option.{Option, none, some}
 use lib.Dec.{eqb, ltb, leb}
-use lib.ListN.{getD}
-use Rattle.lines.specs.declared.Reading.{Reading}
+use lib.ListN.{length}
+use Rattle.model.specs.declared.Call.{Call}
 use Rattle.letters.specs.declared.Parsed.{Parsed}
-use Rattle.letters.specs.declared.Parsed.the-variants.{Skipped}
-use Rattle.letters.specs.Forms.{Form, formOf}
-use Rattle.letters.specs.Named.{namedBy}
+use Rattle.letters.specs.declared.Parsed.the-variants.{Named, Skipped}
+use Rattle.letters.specs.Forms.{Form, formOf, offsetDigits}
 
-abbrev pub reading : ℕ → ℕ → ℕ → ℕ → Bool → ℕ → ℕ → Reading
-reading letter room next last bare first value =
-    record { letter = letter; room = room; next = next; last = last; bare = bare; first = first; value = value }
-
--- a line before its first byte
-abbrev pub fresh : Reading
-fresh = reading 0 0 0 0 false 0 0
-
--- a line that names no call, whatever follows: 1 is no letter, and no field is to come
-abbrev pub skipped : Reading
-skipped = reading 1 0 0 0 false 0 0
-
--- the first byte is the letter
-abbrev pub opened : Option Form → Reading
-opened none = skipped
-opened (some f) = reading (f .letter) 0 (getD (f .fields) 0 0) (getD (f .fields) 1 0) false 0 0
-
--- "one space between fields": the field at hand has its digits, and there is one more
-abbrev pub spaced : Reading → Reading
-spaced r = cond (r .bare) skipped (cond (eqb (r .next) 0) skipped (reading (r .letter) (r .next) (r .last) 0 true (r .value) 0))
-
--- "hex of either case"; 16 for any other byte
+-- ── Digits ────────────────────────────────────────────────────────────────────────────────────────────────────
+-- the value of a hex digit, of either case; 16 for a byte that is none
 abbrev pub hexOf : ℕ → ℕ
 hexOf b =
-    cond (leb 0x30 b && leb b 0x39) (b - 0x30)
-    (cond (leb 0x41 b && leb b 0x46) (b - 0x41 + 10)
-    (cond (leb 0x61 b && leb b 0x66) (b - 0x61 + 10)
+    cond (leb (code "0") b && leb b (code "9")) (b - code "0")
+    (cond (leb (code "A") b && leb b (code "F")) (b - code "A" + 10)
+    (cond (leb (code "a") b && leb b (code "f")) (b - code "a" + 10)
     16))
 
--- one digit more of the field at hand. No field has more than eight digits: the remainder never cuts
-abbrev pub extended : Reading → ℕ → Reading
-extended r d =
-    cond (ltb 15 d) skipped
-    (cond (eqb (r .room) 0) skipped
-    (reading (r .letter) (r .room - 1) (r .next) (r .last) false (r .first) (r .value % 0x10000000 * 16 + d)))
+unfoldable pub allHex : List ℕ → Bool
+allHex [] = true
+allHex (b ∷ bytes) = ltb (hexOf b) 16 && allHex bytes
 
-abbrev pub eatOf : Reading → ℕ → Reading
-eatOf r b = cond (eqb (r .letter) 0) (opened (formOf b)) (cond (eqb b 0x20) (spaced r) (extended r (hexOf b)))
+-- one to d hex digits
+abbrev pub isField : ℕ → List ℕ → Bool
+isField d bytes = ltb 0 (length bytes) && (leb (length bytes) d && allHex bytes)
 
-abbrev pub readingOf : List ℕ → Reading
-readingOf = foldl eatOf fresh
+-- their value, the first the most significant
+abbrev pub valueOf : List ℕ → ℕ
+valueOf = foldl (λ v b. v * 16 + hexOf b) 0
 
--- the call of a line that ends here: every field is there, with a digit at least; "other lines are skipped"
-abbrev pub callOf : Reading → Parsed
-callOf r = cond (r .bare) Skipped (cond (eqb (r .next) 0) (namedBy (formOf (r .letter)) (r .first) (r .value)) Skipped)
+-- ── Parts ─────────────────────────────────────────────────────────────────────────────────────────────────────
+-- the bytes before the first byte x
+unfoldable pub before : ℕ → List ℕ → List ℕ
+before x [] = []
+before x (b ∷ bytes) = cond (eqb b x) [] (b ∷ before x bytes)
 
-abbrev pub parsedOf : List ℕ → Parsed
-parsedOf line = callOf (readingOf line)
+-- behind each byte x the bytes up to the next one or to the end
+unfoldable pub behind : ℕ → List ℕ → List (List ℕ)
+behind x [] = []
+behind x (b ∷ bytes) = let rest = behind x bytes in cond (eqb b x) (before x bytes ∷ rest) rest
+
+-- ── A line ────────────────────────────────────────────────────────────────────────────────────────────────────
+-- a field of at most d digits is the next part, and its value goes on with the parts behind it; one that the letter does not use is 0 and no part
+abbrev pub field : ℕ → List (List ℕ) → (ℕ → List (List ℕ) → Parsed) → Parsed
+field zero parts goes-on = goes-on 0 parts
+field (suc d) [] goes-on = Skipped
+field (suc d) (part ∷ parts) goes-on = cond (isField (suc d) part) (goes-on (valueOf part) parts) Skipped
+
+-- no part is left
+abbrev pub noneLeft : Call → List (List ℕ) → Parsed
+noneLeft c [] = Named c
+noneLeft c (part ∷ parts) = Skipped
+
+abbrev pub byFields : Option Form → List (List ℕ) → Parsed
+byFields none parts = Skipped
+byFields (some f) parts =
+    field (offsetDigits (f .fields)) parts (λ o parts₁.
+    field (f .fields .first) parts₁ (λ v parts₂.
+    field (f .fields .second) parts₂ (λ w parts₃.
+    noneLeft (f .call o v w) parts₃)))
+
+-- a letter alone stands before the first blank
+abbrev pub byLetter : List ℕ → List (List ℕ) → Parsed
+byLetter [] parts = Skipped
+byLetter (l ∷ []) parts = byFields (formOf l) parts
+byLetter (l ∷ b ∷ bytes) parts = Skipped
+
+abbrev pub lineNames : List ℕ → Parsed
+lineNames line = let blank = code " " in byLetter (before blank line) (behind blank line)

@@ -2,7 +2,8 @@
 ghost use mathlib.Core.Path.{_≡_};
 ghost use mathlib.Core.Bool.{false};
 ghost use Rattle.letters.specs.Forms.{formOf};
-ghost use Rattle.lines.specs.Lines.{fresh, skipped, opened, spaced, hexOf, extended, eatOf, reading, callOf, parsedOf};
+ghost use Rattle.lines.specs.Lines.{hexOf, lineNames};
+ghost use Rattle.lines.specs.Automaton.{unread, skipped, letterRead, spaced, extended, eatOf, readingWith, callRead};
 use letters::Parsed;
 
 // A line so far.
@@ -23,7 +24,7 @@ pub struct Reading {
 
 // A line before its first byte.
 pub fn begin() -> Reading
-    ensures { λ r. ⌜ r ≡ fresh ⌝ }
+    ensures { λ r. ⌜ r ≡ unread ⌝ }
 {
     Reading {
         letter: 0,
@@ -38,7 +39,7 @@ pub fn begin() -> Reading
 
 // A line with its letter, and the most digits of its two fields.
 fn lettered(letter: u8, next: u8, last: u8) -> Reading
-    ensures { λ r. ⌜ r ≡ reading letter 0 next last false 0 0 ⌝ }
+    ensures { λ r. ⌜ r ≡ readingWith letter 0 next last false 0 0 ⌝ }
 {
     Reading {
         letter: letter,
@@ -59,7 +60,7 @@ fn skip() -> Reading
 
 // The first byte of a line.
 fn letter(b: u8) -> Reading
-    ensures { λ r. ⌜ r ≡ opened (formOf b) ⌝ }
+    ensures { λ r. ⌜ r ≡ letterRead (formOf b) ⌝ }
 {
     match b {
         b'W' => lettered(b'W', 4, 8),
@@ -145,7 +146,7 @@ pub fn eat(r: Reading, b: u8) -> Reading
 
 // What a line that ends here names.
 pub fn named(r: Reading) -> Parsed
-    ensures { λ p. ⌜ p ≡ callOf r ⌝ }
+    ensures { λ p. ⌜ p ≡ callRead r ⌝ }
 {
     if r.bare {
         return Parsed::Skipped;
@@ -156,9 +157,9 @@ pub fn named(r: Reading) -> Parsed
     letters::call(r.letter, r.first, r.value)
 }
 
-// What a whole line names.
+// What a whole line names, as the grammar says it.
 pub fn parse(line: &[u8]) -> Parsed
-    ensures { λ p. ⌜ p ≡ parsedOf (now (line .entry)) ⌝ }
+    ensures { λ p. ⌜ p ≡ lineNames (now (line .entry)) ⌝ }
 {
     let mut r = begin();
     for i in 0..line.len() {

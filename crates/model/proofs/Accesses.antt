@@ -52,7 +52,7 @@ module _ (l : Controller) (o : List ℕ) where
   blind d e n v k s = record { number = n; answer = (v, k); left = s }
 
   -- ── Reads ───────────────────────────────────────────────────────────────────────────────────────────────────
-  -- what a register shows does not hang on the output
+  -- what a register shows does not depend on the output
   abbrev Shows : Row → Type 0
   Shows absent = Unit {0}
   Shows (shows f) = f (viewRings m) ≡ f (viewRings l)

@@ -23,7 +23,7 @@ use Rattle.model.specs.View.{Queue, Cmd, Cmdr, Sdo, Sdi, Ibi, View}
 use Rattle.model.specs.Decision.{Decision, first, effect}
 use Rattle.model.specs.Registers.{Cell, Row, absent, shows, holds, pushes, takes, enables, acknowledges, row, enable, read, write}
 use Rattle.model.specs.Calls.{busy, start, send, receive, finish, interrupt, request, takeAddress}
-use Rattle.model.specs.Bursts.{standing, trigger, burstSend, burstReceive, burstFinish, decide}
+use Rattle.model.specs.Bursts.{burstAt, trigger, burstSend, burstReceive, burstFinish, decide}
 use Rattle.model.specs.Engine.{Step, outcome, step}
 use Rattle.model.specs.Rings.{Controller, viewRings, onRing, onStore, settleRings, rings}
 use Rattle.model.specs.Laws.{isAccess, StaysWellFormed}
@@ -45,7 +45,7 @@ Throughout m (c ∷ cs) = (bursting (m .bank .state .control) ≡ true) × Throu
 pub record Beside (m n : Controller) : Type 0 where
   pub queues : queuesIn (m .bank) ≡ queuesIn (n .bank)
   pub store : m .store ≡ n .store
-  pub control : standing 0 (m .bank .state .control) ≡ n .bank .state .control
+  pub control : burstAt 0 (m .bank .state .control) ≡ n .bank .state .control
 
 -- ── An access ─────────────────────────────────────────────────────────────────────────────────────────────────
 -- n with what m shares with it, in m's own terms: then both decide by one and the same queues
@@ -55,7 +55,7 @@ graft m n =
     record {
       bank =
           record {
-            state = record { caps = s .caps; levels = s .levels; regs = n .bank .state .regs; control = standing 0 (s .control); phase = n .bank .state .phase };
+            state = record { caps = s .caps; levels = s .levels; regs = n .bank .state .regs; control = burstAt 0 (s .control); phase = n .bank .state .phase };
             heads = m .bank .heads;
             flags = n .bank .flags;
             commands = n .bank .commands;
@@ -213,7 +213,7 @@ triggered-beside l =
     let i = not-false (idle (s .phase)) (p .1 .1 .0) in
     let k = no-burst-idle (s .control) (s .regs) (s .phase) (l .bank .commands) i (formed-of (l .bank) f .phase) in
     let n = eqb-true (s .control .burst) 0 (not-false (eqb (s .control .burst) 0) k) in
-    record { queues = refl; store = refl; control = λ i. standing (sym n i) (s .control) })
+    record { queues = refl; store = refl; control = λ i. burstAt (sym n i) (s .control) })
 
 pub alone : (cs : List Call) (m n : Controller) → wellFormed (m .bank) ≡ true → length (m .store) ≡ total (m .bank .state .caps) → wellFormed (n .bank) ≡ true → noReset cs ≡ true → Throughout m cs → Beside m n → Beside (after m cs) (after n (accesses cs))
 unfolding after accesses noReset StaysWellFormed

@@ -1,4 +1,4 @@
--- The law of a burst, and that an interrupt request is 6 throughout.
+-- The law of a burst, and that an interrupt request is 6 as long as it is open.
 use Prim.Native.Nat.{ℕ, suc, _+_, _≤_}
 use native.Mathlib.Omega.{arith}
 use mathlib.Core.Path.{_≡_, refl, ap, sym, _∙_}
@@ -17,7 +17,7 @@ use Rattle.model.specs.declared.Call.the-variants.{Finish, Interrupt, Tr
 use Rattle.model.specs.View.{View}
 use Rattle.model.specs.Decision.{Decision, first, effect}
 use Rattle.model.specs.Calls.{finish, interrupt}
-use Rattle.model.specs.Bursts.{standing, opening, lastly, lacking, short, burstFinish, decide}
+use Rattle.model.specs.Bursts.{burstAt, opening, lastCommand, outputShort, shortInBurst, burstFinish, decide}
 use Rattle.model.specs.Engine.{Step, outcome, step}
 use Rattle.model.specs.Rings.{Controller, viewRings, settleRings, rings}
 use Rattle.model.specs.Demand.{snoc}
@@ -54,11 +54,11 @@ module _ (l : Controller) (g : Log) where
       inside =
           let b = h .going .stands in
           let k = same-span l g s (h .going) o in
-          let e : lastly s ≡ true = le-leb (span (s .regs)) (s .control .burst) (omega (arith, b, k, n)) in
+          let e : lastCommand s ≡ true = le-leb (span (s .regs)) (s .control .burst) (omega (arith, b, k, n)) in
           (ap (λ (x : Bool). cond x 0 (s .control .burst + 1)) e, ap (λ (x : Bool). idle (cond x Idle (opening s (s .control .burst)))) e, done-words l g s (h .going) o)
 
 -- no place in a burst is left
-unbursting : (c : Control) → c .burst ≡ 0 → c ≡ standing 0 c
+unbursting : (c : Control) → c .burst ≡ 0 → c ≡ burstAt 0 c
 unbursting c e = λ i. record { held = c .held; sync = c .sync; ibisync = c .ibisync; cmdrpending = c .cmdrpending; ibipending = c .ibipending; daapending = c .daapending; burst = e i }
 
 pub burst-law : BurstLaw
@@ -83,7 +83,7 @@ burst-law l cs code t n c f =
       closed = z .1;
     }
 
--- ── Busy throughout ───────────────────────────────────────────────────────────────────────────────────────────
+-- ── Busy until the last finish ────────────────────────────────────────────────────────────────────────────────
 -- the output keeps its length
 output-whole : (xs o : List ℕ) (n : ℕ) → length xs ≡ n → n ≤ length o → length (xs ++ drop n o) ≡ length o
 output-whole xs o n e h =
@@ -106,7 +106,7 @@ module _ (l m : Controller) (g : Log) (h : Inside l m g) where
   not-held : m .bank .state .control .held ≡ false
   not-held = no-such (m .bank .state .control .held) (λ e. true≢false (sym (all-clear m (h .formed) e .2) ∙ open-transfer))
 
-  enough : lacking s ≡ false
+  enough : outputShort s ≡ false
   enough =
       let k = h .going in
       let o = inside-opened l m g h in
@@ -119,8 +119,8 @@ module _ (l m : Controller) (g : Log) (h : Inside l m g) where
       let b = ap (λ (x : ℕ). readsIn x (m .bank .commands)) (same-span l g s k o) ∙ ap (readsIn (span (l .bank .state .regs))) (k .sameCommands) in
       le-ltb (length (m .output)) (readsIn (span (m .bank .state .regs)) (m .bank .commands)) (omega (arith, a, b, w))
 
-  not-short : short s ≡ false
-  unfolding short
+  not-short : shortInBurst s ≡ false
+  unfolding shortInBurst
   not-short = ap (λ (b : Bool). bursting (s .control) && b) enough ∙ ap (λ (b : Bool). b && false) (in-burst l g s (h .going) (inside-opened l m g h))
 
   interrupt-busy : (a byte : ℕ) → a ≤ 127 → step rings m (Interrupt a byte) .answer ≡ record { value = 0; number = 6 }

@@ -1,4 +1,4 @@
--- Cutting words into commands.
+-- Laws of the cut of words into commands.
 use Prim.Native.Nat.{ℕ}
 use mathlib.Core.Path.{_≡_, refl, ap, sym, _∙_}
 use mathlib.Core.Bool.{true, false}

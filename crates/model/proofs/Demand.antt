@@ -19,7 +19,7 @@ use Rattle.model.specs.declared.Call.the-variants.{Read, Write, Start, S
 use Rattle.model.specs.Engine.{Step, Lent, stepLent, final}
 use Rattle.model.specs.Rings.{Controller, rings}
 use Rattle.model.specs.Lists.{Lists, lists}
-use Rattle.model.specs.Laws.{fresh, freshLists, WrongLength, SetUpWellFormed}
+use Rattle.model.specs.Laws.{freshController, freshLists, WrongLength, SetUpWellFormed}
 use Rattle.model.specs.Demand.{Tally, event, follow, tally, directPhase, Demand3, Demand, other, word, wrote}
 use Rattle.model.proofs.Rings.{listed}
 use Rattle.model.proofs.Events.{HeldIn}
@@ -87,7 +87,7 @@ unfolding Demand SetUpWellFormed
 demand caps marks id store cs t n e = go (eqb (length store) (total (l .bank .state .caps))) refl
   where
     l : Controller
-    l = fresh caps marks id store
+    l = freshController caps marks id store
 
     go : (b : Bool) → eqb (length store) (total (l .bank .state .caps)) ≡ b → Claim t (listed (final rings l cs))
     go true z = from-lists l (freshLists caps marks id) (fresh-sound caps marks id store n (eqb-true (length store) (total (l .bank .state .caps)) z)) (fresh-kept caps marks id n) cs t e

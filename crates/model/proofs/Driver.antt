@@ -1,4 +1,4 @@
--- The laws that a driver author asks for.
+-- The laws for authors of drivers.
 use Prim.Native.Nat.{ℕ, zero, suc, _+_, _-_, _*_, _^_, _<_, _≤_}
 use native.Mathlib.Omega.{arith}
 use mathlib.Core.Path.{_≡_, refl, ap, sym, _∙_, subst}
@@ -20,7 +20,7 @@ use Rattle.bank.specs.SetUp.{total, cleared}
 use Rattle.bank.specs.Formed.{queuesClear, controlClear, ringClear, resetOk, wellFormed}
 use Rattle.bank.proofs.Bools.{and-true, three, five}
 use Rattle.bank.proofs.Laws.{Formed, formed-is, formed-of, ready}
-use Rattle.registers.specs.Map.{named, find, registerAt}
+use Rattle.registers.specs.Map.{named, entryAt, registerAt}
 use Rattle.model.specs.declared.Call.{Call}
 use Rattle.model.specs.declared.Call.the-variants.{Read, Write, Finish}
 use Rattle.bank.specs.Bits.{bit, bits}
@@ -29,13 +29,13 @@ use Rattle.model.specs.Decision.{QueueOp, take, only, Effect, Decision, 
 use Rattle.model.specs.Commands.{receiptWord}
 use Rattle.model.specs.Registers.{Cell, scratch, mask, ops, ibiConfig, devChar, offloadCmd, offloadSdo, Row, absent, shows, holds, pushes, takes, enables, acknowledges, row, shown, clears, released, burstHolds, enable, read, write}
 use Rattle.model.specs.Calls.{allowed, finish}
-use Rattle.model.specs.Bursts.{short, decide}
+use Rattle.model.specs.Bursts.{shortInBurst, decide}
 use Rattle.bank.specs.Bursts.{bursting}
 use Rattle.model.specs.Engine.{Step, outcome, step, Lent, lending, final}
 use Rattle.model.specs.Rings.{Area, Controller, areas, wordsIn, viewRings, onRings, onRing, onStore, settleRings, guardRings, rings}
 use Rattle.model.specs.Lists.{Lists, viewLists, settleLists, lists}
-use Rattle.model.specs.Laws.{fresh, freshLists, same, RefusalChangesNothing, StaysWellFormed}
-use Rattle.model.specs.Driver.{wordsOf, noRoom, shownOf, Within, PlainWriteTaken, ReadBack, PushesReadZero, RoomAndWords, takesWord, ReadChangesNothing, ControlAfter, ReadTook, ReadTakesOne, Clean, ReleasedClean, Outlives, ResetKeeps, reads, RefusedFinishAgain}
+use Rattle.model.specs.Laws.{freshController, freshLists, sameQueue, RefusalChangesNothing, StaysWellFormed}
+use Rattle.model.specs.Driver.{heldWords, finishLacksRoom, shownOf, Within, PlainWriteTaken, ReadBack, PushesReadZero, RoomAndWords, takesWord, ReadChangesNothing, ControlAfter, ReadTook, ReadTakesOne, Clean, ReleasedClean, Outlives, ResetKeeps, reads, RefusedFinishAgain}
 use Rattle.model.proofs.Tests.{Refusal, Passed}
 use Rattle.model.proofs.Room.{by-queue}
 use Rattle.model.proofs.Formed.{read-untouched}
@@ -121,7 +121,7 @@ caps-kept k (c ∷ cs) m =
     caps-kept k cs (step lists n (c .call) .next) ∙ caps-settled k n (first d) (effect d)
 
 room-read : (l : Controller) → Formed (l .bank) → RightLength l → (step rings l (Read 0x0c0) .answer .value ≡ queuesIn (l .bank) .cmd .cap .0 - queuesIn (l .bank) .cmd .level .0) × (step rings l (Read 0x0c8) .answer .value ≡ queuesIn (l .bank) .sdo .cap .0 - queuesIn (l .bank) .sdo .level .0)
-unfolding step guardRings named find
+unfolding step guardRings named entryAt
 room-read l f z = (rw (formed-is (l .bank) f, eq-eqb (length (l .store)) (total (l .bank .state .caps)) z), rw (formed-is (l .bank) f, eq-eqb (length (l .store)) (total (l .bank .state .caps)) z))
 
 whole-room : (value cap level count want : ℕ) → value ≡ cap - level → count ≡ level → level ≤ cap → cap ≡ want → value + count ≡ want
@@ -130,8 +130,8 @@ whole-room value cap level count want a b c d = omega arith
 pub room-and-words : RoomAndWords
 unfolding RoomAndWords
 room-and-words caps marks id store cs n z =
-    let s = same-final cs (fresh caps marks id store) (freshLists caps marks id) (fresh-sound caps marks id store n z) in
-    let l = final rings (fresh caps marks id store) cs in
+    let s = same-final cs (freshController caps marks id store) (freshLists caps marks id) (fresh-sound caps marks id store n z) in
+    let l = final rings (freshController caps marks id store) cs in
     let q = queuesIn (l .bank) in
     let a = areas q in
     let r = ready q (l .store) (s .formed .queues) (s .size) in
@@ -168,7 +168,7 @@ cleared-if : (b old : Bool) → (not b && old) ≡ cond b false old
 cleared-if true old = refl
 cleared-if false old = refl
 
-control-after : (q : Queue) (b : Bool) (c : Control) → same Sdo q ≡ false → ControlAfter q b c (clears q b c)
+control-after : (q : Queue) (b : Bool) (c : Control) → sameQueue Sdo q ≡ false → ControlAfter q b c (clears q b c)
 control-after Cmd b c h = record { held = refl; sync = refl; ibisync = refl; cmdrpending = refl; ibipending = refl; daapending = refl; burst = refl }
 control-after Cmdr b c h = record { held = refl; sync = refl; ibisync = refl; cmdrpending = cleared-if b (c .cmdrpending); ibipending = refl; daapending = refl; burst = refl }
 control-after Sdo b c h = absurd (true≢false h)
@@ -189,7 +189,7 @@ level-of l Sdo = refl
 level-of l Sdi = refl
 level-of l Ibi = refl
 
-first-of : (l : Controller) (q : Queue) → of q (viewRings l .queues) .first ≡ getD (wordsOf q l) 0 0
+first-of : (l : Controller) (q : Queue) → of q (viewRings l .queues) .first ≡ getD (heldWords q l) 0 0
 first-of l Cmd = refl
 first-of l Cmdr = refl
 first-of l Sdo = refl
@@ -200,19 +200,19 @@ some-left : (n m : ℕ) → n ≡ m → (n ≡ 0 → ⊥) → 1 ≤ m
 some-left zero m e k = absurd (k refl)
 some-left (suc n) m e k = omega (arith, e)
 
-one-less : (l : Controller) (q : Queue) → wellFormed (l .bank) ≡ true → RightLength l → eqb (of q (viewRings l .queues) .level) 0 ≡ false → wordsOf q (settleRings l (effect (read (takes q) (viewRings l)))) ≡ drop 1 (wordsOf q l)
+one-less : (l : Controller) (q : Queue) → wellFormed (l .bank) ≡ true → RightLength l → eqb (of q (viewRings l .queues) .level) 0 ≡ false → heldWords q (settleRings l (effect (read (takes q) (viewRings l)))) ≡ drop 1 (heldWords q l)
 unfolding onRing
 one-less l q f z h =
     let k = queuesIn (l .bank) in
     let a = of q (areas k) in
     let at = base-same k (l .store) (only q (take 1)) (ready k (l .store) (formed-of (l .bank) f .queues) z) q ∙ ap (λ (o : QueueOp). onArea o a) (only-takes q) in
     let some = eqb-false (of q (viewRings l .queues) .level) 0 h in
-    let same = level-of l q in
+    let sameQueue = level-of l q in
     ap (λ (s : List ℕ). wordsIn (of q (areas (onRings (only q (take 1)) k))) s) (take-stores-none l q)
     ∙ ap (λ (x : Area). wordsIn x (l .store)) at
-    ∙ entries-take (a .ring) (a .base) (l .store) 1 (some-left _ _ same some)
+    ∙ entries-take (a .ring) (a .base) (l .store) 1 (some-left _ _ sameQueue some)
 
-took : (l : Controller) (q : Queue) → wellFormed (l .bank) ≡ true → RightLength l → same Sdo q ≡ false → eqb (of q (viewRings l .queues) .level) 0 ≡ false → (let e = effect (read (takes q) (viewRings l)) in ReadTook l (settleRings l e) (e .value) q)
+took : (l : Controller) (q : Queue) → wellFormed (l .bank) ≡ true → RightLength l → sameQueue Sdo q ≡ false → eqb (of q (viewRings l .queues) .level) 0 ≡ false → (let e = effect (read (takes q) (viewRings l)) in ReadTook l (settleRings l e) (e .value) q)
 took l q f z h k =
     record { first = first-of l q; words = one-less l q f z k; store = take-stores-none l q; output = refl; regs = refl; phase = refl; flags = refl; commands = refl; payloads = refl; control = control-after q _ (l .bank .state .control) h }
 
@@ -230,7 +230,7 @@ enable-keeps l true = record { regs = refl; flags = refl; commands = refl; paylo
 enable-keeps l false = record { regs = refl; flags = refl; commands = refl; payloads = refl }
 
 pub reset-keeps : ResetKeeps
-unfolding ResetKeeps named find
+unfolding ResetKeeps named entryAt
 reset-keeps l v = by-outcome (λ r. Outlives l (r .next)) l (Write 0x040 v) (λ n k. record { regs = refl; flags = refl; commands = refl; payloads = refl }) (λ f z p. enable-keeps l (bit 0 v))
 
 none-of : (xs : List ℕ) → length xs ≡ 0 → xs ≡ []
@@ -266,7 +266,7 @@ unfolding resetOk
 all-clear l f h = let s = l .bank .state in three (queuesClear (queuesIn (l .bank))) (controlClear (s .control)) (idle (s .phase)) (while-held (s .control .held) (queuesClear (queuesIn (l .bank)) && controlClear (s .control) && idle (s .phase)) h (formed-of (l .bank) f .reset))
 
 enable-taken : (l : Controller) (v : ℕ) → wellFormed (l .bank) ≡ true → RightLength l → step rings l (Write 0x040 v) ≡ settled l (Write 0x040 v)
-unfolding step guardRings named find
+unfolding step guardRings named entryAt
 enable-taken l v f z = rw (f, eq-eqb (length (l .store)) (total (l .bank .state .caps)) z)
 
 enabled-answer : (l : Controller) (b : Bool) → outcome none (enable (viewRings l) b) l (settleRings l (enable (viewRings l) b)) .answer ≡ record { value = 0; number = 0 }
@@ -275,15 +275,15 @@ enabled-answer l true = refl
 enabled-answer l false = refl
 
 reset-holds : (l : Controller) → settled l (Write 0x040 1) .next .bank .state .control .held ≡ true
-unfolding named find enable
+unfolding named entryAt enable
 reset-holds l = refl
 
 freed : (m : Controller) → wellFormed (m .bank) ≡ true → m .bank .state .control .held ≡ true → Clean (settled m (Write 0x040 0) .next)
-unfolding named find enable onRing onStore
+unfolding named entryAt enable onRing onStore
 freed m f h = let z = all-clear m f h in record { control = control-none (m .bank .state .control) (z .1); phase = z .2; words = queues-none (queuesIn (m .bank)) (m .store) (z .0) }
 
 pub released-clean : ReleasedClean
-unfolding ReleasedClean named find
+unfolding ReleasedClean named entryAt
 released-clean l f z =
     let s = stays-sound l (listed l) (Write 0x040 1) (record { is = refl; formed = formed-of (l .bank) f; size = z }) in
     let m = step rings l (Write 0x040 1) .next in
@@ -332,9 +332,9 @@ reads-keep (o ∷ os) w l =
     let b = reads-keep os w (step rings m (Read o) .next) in
     record { phase = b .phase ∙ a .phase; sync = b .sync ∙ a .sync; held = b .held ∙ a .held; burst = b .burst ∙ a .burst }
 
--- outside a burst the finish decides as 01 says
+-- outside a burst a finish is `finish`, behind 18
 direct-finish : (s : View) (code : ℕ) → bursting (s .control) ≡ false → decide s (Finish code) ≡ (ltb 15 code ⇒ 18 ∣ false ⇒ 13 ∣ finish s code)
-unfolding short
+unfolding shortInBurst
 direct-finish s code e = rw e
 
 abbrev decidedBy : Controller → Decision → Step Controller
@@ -366,14 +366,14 @@ by-tests : (a b c d e f g : Bool) (x : Effect) (l m : Controller) (v : ℕ) → 
 by-tests a b c d e f g x l m v z w ha hb hc hd he hf = rw (ha, hb, hc, hd, he, hf) (by-room g x l m v z w)
 
 again : (l m : Controller) (code : ℕ) → bursting (l .bank .state .control) ≡ false → SameRun l m → wellFormed (m .bank) ≡ true → RightLength m → (let s = l .bank .state in (ltb 15 code ≡ false) × (s .control .held ≡ false) × (idle (s .phase) ≡ false) × (not (allowed (s .phase) code) ≡ false))
-    → step rings m (Finish code) .answer ≡ cond (noRoom (viewRings m)) (record { value = 0; number = 13 }) (record { value = receiptWord code (transfer (l .bank .state .phase) .moved .0) (l .bank .state .control .sync); number = 0 })
+    → step rings m (Finish code) .answer ≡ cond (finishLacksRoom (viewRings m)) (record { value = 0; number = 13 }) (record { value = receiptWord code (transfer (l .bank .state .phase) .moved .0) (l .bank .state .control .sync); number = 0 })
 unfolding guardRings finish
 again l m code n k f z h =
     let s = m .bank .state in
     let word = ap (λ (p : Phase). receiptWord code (transfer p .moved .0) (s .control .sync)) (k .phase) ∙ ap (receiptWord code (transfer (l .bank .state .phase) .moved .0)) (k .sync) in
     let x = effect (finish (viewRings m) code) in
     ap (λ (r : Step Controller). r .answer) (finished-by m code (ap (λ (b : ℕ). not (eqb b 0)) (k .burst) ∙ n))
-    ∙ by-tests (not (wellFormed (m .bank))) (not (eqb (length (m .store)) (total (s .caps)))) (ltb 15 code) (s .control .held) (idle (s .phase)) (not (allowed (s .phase) code)) (noRoom (viewRings m)) x m (settleRings m x) _ refl word
+    ∙ by-tests (not (wellFormed (m .bank))) (not (eqb (length (m .store)) (total (s .caps)))) (ltb 15 code) (s .control .held) (idle (s .phase)) (not (allowed (s .phase) code)) (finishLacksRoom (viewRings m)) x m (settleRings m x) _ refl word
     (ap not f) (ap not (eq-eqb (length (m .store)) (total (s .caps)) z)) (h .0) (k .held ∙ h .1) (ap idle (k .phase) ∙ h .2) (ap (λ (p : Phase). not (allowed p code)) (k .phase) ∙ h .3)
 
 finish-tests : (l : Controller) (code : ℕ) → bursting (l .bank .state .control) ≡ false → step rings l (Finish code) .answer .number ≡ 13 → (wellFormed (l .bank) ≡ true) × RightLength l × (let s = l .bank .state in (ltb 15 code ≡ false) × (s .control .held ≡ false) × (idle (s .phase) ≡ false) × (not (allowed (s .phase) code) ≡ false))
@@ -382,16 +382,16 @@ finish-tests l code b n =
     let s = l .bank .state in
     let x = effect (finish (viewRings l) code) in
     let e = eqb (length (l .store)) (total (s .caps)) in
-    let h = last-alone (not (wellFormed (l .bank))) (not e) (ltb 15 code) (s .control .held) (idle (s .phase)) (not (allowed (s .phase) code)) (noRoom (viewRings l)) x l (settleRings l x) refl (sym (ap (λ (r : Step Controller). r .answer .number) (finished-by l code b)) ∙ n) in
+    let h = last-alone (not (wellFormed (l .bank))) (not e) (ltb 15 code) (s .control .held) (idle (s .phase)) (not (allowed (s .phase) code)) (finishLacksRoom (viewRings l)) x l (settleRings l x) refl (sym (ap (λ (r : Step Controller). r .answer .number) (finished-by l code b)) ∙ n) in
     (not-false (wellFormed (l .bank)) (h .0), eqb-true (length (l .store)) (total (s .caps)) (not-false e (h .1)), (h .2, h .3, h .4, h .5))
 
 pub refused-finish-again : RefusedFinishAgain
 unfolding RefusedFinishAgain RefusalChangesNothing
 refused-finish-again l code os b n =
-    let same = refusal-changes-nothing l (Finish code) (λ e. absurd (omega (arith, n, e))) (λ e. absurd (omega (arith, n, e))) .0 in
+    let sameQueue = refusal-changes-nothing l (Finish code) (λ e. absurd (omega (arith, n, e))) (λ e. absurd (omega (arith, n, e))) .0 in
     let h = finish-tests l code b n in
     let s = same-final (lending (l .output) (reads os)) l (listed l) (record { is = refl; formed = formed-of (l .bank) (h .0); size = h .1 }) in
     subst
-    (λ (p : Controller). (let m = final rings p (lending (l .output) (reads os)) in step rings m (Finish code) .answer ≡ cond (noRoom (viewRings m)) (record { value = 0; number = 13 }) (record { value = receiptWord code (transfer (l .bank .state .phase) .moved .0) (l .bank .state .control .sync); number = 0 })))
-    (sym same)
+    (λ (p : Controller). (let m = final rings p (lending (l .output) (reads os)) in step rings m (Finish code) .answer ≡ cond (finishLacksRoom (viewRings m)) (record { value = 0; number = 13 }) (record { value = receiptWord code (transfer (l .bank .state .phase) .moved .0) (l .bank .state .control .sync); number = 0 })))
+    (sym sameQueue)
     (again l (final rings l (lending (l .output) (reads os))) code b (reads-keep os (l .output) l) (formed-is (final rings l (lending (l .output) (reads os)) .bank) (s .formed)) (s .size) (h .2))

@@ -1,4 +1,4 @@
--- Each call keeps what ties the tally to the lists: one lemma for each call.
+-- Each call keeps the invariant between the tally and the lists: one lemma for each call.
 use Prim.Native.Nat.{ℕ, suc, _-_, _/_, _%_, _^_, zero-le}
 use native.Mathlib.Omega.{arith}
 use mathlib.Core.Path.{_≡_, refl, ap, sym, _∙_, subst}
@@ -14,7 +14,7 @@ use Rattle.bank.specs.declared.Phase.{Phase}
 use Rattle.bank.specs.declared.Phase.the-variants.{Writing, Reading, Requested, Answered}
 use Rattle.bank.specs.Phases.{idle, writing, reading, assigning, requested, transfer}
 use Rattle.bank.proofs.Bools.{or-left}
-use Rattle.registers.specs.Map.{named, find, registerAt}
+use Rattle.registers.specs.Map.{named, entryAt, registerAt}
 use Rattle.bank.specs.Bits.{bit}
 use Rattle.model.specs.View.{Cmd, Cmdr, Sdo, Sdi, Ibi}
 use Rattle.model.specs.Decision.{first, effect}
@@ -217,7 +217,7 @@ abbrev AfterRead : Option Tally → Lists → ℕ → Event → Type 0
 AfterRead o l off e = Good (follow o e) (key (settleLists l (effect (read (row (registerAt off)) (viewLists l)))))
 
 pub read-good : (o : Option Tally) (l : Lists) (off : ℕ) → Passed (read (row (registerAt off)) (viewLists l)) → Good o (key l) → AfterRead o l off (readEvent off (effect (read (row (registerAt off)) (viewLists l)) .value) true)
-unfolding named find
+unfolding named entryAt
 read-good o l off f g = go (eqb off 0x0c0) (eqb off 0x0d8) refl refl f
   where
     val : ℕ → ℕ
@@ -284,7 +284,7 @@ abbrev AfterWrite : Option Tally → Lists → ℕ → ℕ → Event → Type 0
 AfterWrite o l off v e = Good (follow o e) (key (settleLists l (effect (write (row (registerAt off)) (viewLists l) v))))
 
 pub write-good : (o : Option Tally) (l : Lists) (off v : ℕ) → Passed (write (row (registerAt off)) (viewLists l) v) → Good o (key l) → AfterWrite o l off v (writeEvent off v true)
-unfolding named find
+unfolding named entryAt
 write-good o l off v f g = go (eqb off 0x040) (eqb off 0x0d4) refl refl f
   where
     go : (a b : Bool) → eqb off 0x040 ≡ a → eqb off 0x0d4 ≡ b → Passed (write (row (registerAt off)) (viewLists l) v) → AfterWrite o l off v (cond a (enabled (bit 0 v)) (cond b (word (wrote true v)) other))
@@ -305,7 +305,7 @@ lost-good (some t) l v n e g =
     record { isReleased = g .isReleased; inv = inv-lost (t .words) (t .past) (t .receipts) (l .queues .cmd .cap) (key l .phase) (l .queues .cmd .words) (l .queues .cmdr .words) (l .control .sync) (t .now) v z (g .inv) }
 
 pub write-refused : (o : Option Tally) (l : Lists) (off v n : ℕ) → first (write (row (registerAt off)) (viewLists l) v) ≡ some n → Good o (key l) → Good (follow o (writeEvent off v false)) (key l)
-unfolding named find
+unfolding named entryAt
 write-refused o l off v n e g = go (eqb off 0x040) (eqb off 0x0d4) refl
   where
     go : (a b : Bool) → eqb off 0x0d4 ≡ b → Good (follow o (cond a other (cond b (word (wrote false v)) other))) (key l)

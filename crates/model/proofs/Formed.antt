@@ -1,4 +1,4 @@
--- A call keeps a bank well formed, part by part: rings, registers, flags, phase, and what holds in reset.
+-- `formed.kept`, part by part: rings, registers, flags, phase, and what holds in reset.
 use Prim.Native.Nat.{ℕ, zero, suc, _+_, _-_, _*_, _/_, _%_, _^_, _≤_, _<_}
 use native.Mathlib.Omega.{arith}
 use mathlib.Core.Path.{_≡_, refl, ap, sym, _∙_}
@@ -29,7 +29,7 @@ use Rattle.model.specs.View.{Queue, Cmd, Cmdr, Sdo, Sdi, Ibi, Five, of, 
 use Rattle.model.specs.Decision.{QueueOp, Decision, effect}
 use Rattle.model.specs.Commands.{Command, firstWord, isEntdaa, isRead, lengthOf, opened, begun}
 use Rattle.model.specs.Registers.{Cell, scratch, mask, ops, ibiConfig, devChar, offloadCmd, offloadSdo, Row, absent, shows, holds, pushes, takes, enables, acknowledges, row, storedRegs, storedTables, pending, clears, enable, read, write}
-use Rattle.model.specs.Calls.{advanced, fresh, fills, start, send, receive, finish, interrupt, request, takeAddress}
+use Rattle.model.specs.Calls.{advanced, firstOfWord, lastOfWord, start, send, receive, finish, interrupt, request, takeAddress}
 use Rattle.model.specs.Bursts.{trigger, burstSend, burstReceive, burstFinish, decide}
 use Rattle.model.specs.Rings.{Controller, viewQueues, viewRings, onRing, onRings}
 use Rattle.model.proofs.Tests.{Passed, of-two}
@@ -253,20 +253,20 @@ pick : (b : Bool) (x y k : ℕ) (n : ℕ) → eqb k 0 ≡ b → y % n ≡ 0 → 
 pick true x y k n e h f = absurd (true≢false (sym e ∙ f))
 pick false x y k n e h f = h
 
-pub sent-ok : (t : Transfer) (first : ℕ) → unattached (Writing t) ≡ false → leb (t .length .0) (t .moved .0) ≡ false → PhaseOk (Writing t) → phaseOk (Writing (advanced t (cond (fresh t) first (t .part) % 2 ^ 24 * 2 ^ 8))) ≡ true
+pub sent-ok : (t : Transfer) (first : ℕ) → unattached (Writing t) ≡ false → leb (t .length .0) (t .moved .0) ≡ false → PhaseOk (Writing t) → phaseOk (Writing (advanced t (cond (firstOfWord t) first (t .part) % 2 ^ 24 * 2 ^ 8))) ≡ true
 sent-ok t first u l h =
     let m = t .moved .0 in
-    phase-ok (Writing (advanced t (cond (fresh t) first (t .part) % 2 ^ 24 * 2 ^ 8)))
+    phase-ok (Writing (advanced t (cond (firstOfWord t) first (t .part) % 2 ^ 24 * 2 ^ 8)))
     (record {
       short = h .short;
       most = one-more (unattached (Writing t)) (t .length .0) m u l;
-      part = sent-part (m % 4) m (cond (fresh t) first (t .part)) refl (λ n. pick (fresh t) first (t .part) (m % 4) (2 ^ (32 - 8 * ((4 - m % 4) % 4))) refl (eqb-true _ 0 (h .part)) n);
+      part = sent-part (m % 4) m (cond (firstOfWord t) first (t .part)) refl (λ n. pick (firstOfWord t) first (t .part) (m % 4) (2 ^ (32 - 8 * ((4 - m % 4) % 4))) refl (eqb-true _ 0 (h .part)) n);
     })
 
-pub received-ok : (t : Transfer) (b : ℕ) → unattached (Reading t) ≡ false → leb (t .length .0) (t .moved .0) ≡ false → PhaseOk (Reading t) → phaseOk (Reading (advanced t (cond (fills t) 0 (t .part + b * 2 ^ (24 - 8 * (t .moved .0 % 4)))))) ≡ true
+pub received-ok : (t : Transfer) (b : ℕ) → unattached (Reading t) ≡ false → leb (t .length .0) (t .moved .0) ≡ false → PhaseOk (Reading t) → phaseOk (Reading (advanced t (cond (lastOfWord t) 0 (t .part + b * 2 ^ (24 - 8 * (t .moved .0 % 4)))))) ≡ true
 received-ok t b u l h =
     let m = t .moved .0 in
-    phase-ok (Reading (advanced t (cond (fills t) 0 (t .part + b * 2 ^ (24 - 8 * (m % 4))))))
+    phase-ok (Reading (advanced t (cond (lastOfWord t) 0 (t .part + b * 2 ^ (24 - 8 * (m % 4))))))
     (record {
       short = h .short;
       most = one-more (unattached (Reading t)) (t .length .0) m u l;

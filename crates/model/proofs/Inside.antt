@@ -10,16 +10,16 @@ use lib.Seq.{drop-cons, append-snoc, set-at}
 use borrow.Author.Tests.{leb-true, ltb-false, eqb-true, not-false, not-true, lt-leb, ne-eqb}
 use Rattle.bank.specs.declared.Transfer.{Transfer}
 use Rattle.bank.specs.declared.Phase.{Phase}
-use Rattle.bank.specs.declared.Phase.the-variants.{Idle, Writing, Reading}
+use Rattle.bank.specs.declared.Phase.the-variants.{Idle, Writing, Reading, Unrequested, Requested, Answered}
 use Rattle.bank.specs.declared.Answer.{Answer}
-use Rattle.bank.specs.Bits.{bit, bits, weigh}
-use Rattle.bank.specs.Phases.{stage, idle, writing, reading, assigning, requested, transfer, unattached, limit}
+use Rattle.bank.specs.Bits.{bit, bits, wordIf}
+use Rattle.bank.specs.Phases.{idle, writing, reading, assigning, requested, transfer, unattached, limit}
 use Rattle.bank.specs.Bursts.{span, readsIn, writesIn, bursting, place, gatheredBytes}
 use Rattle.bank.specs.SetUp.{total}
 use Rattle.bank.specs.Formed.{wellFormed}
 use Rattle.bank.proofs.Bools.{or-left, and-true, three}
 use Rattle.bank.proofs.Laws.{formed-is, formed-of}
-use Rattle.registers.specs.Map.{named, find, registerAt}
+use Rattle.registers.specs.Map.{named, entryAt, registerAt}
 use Rattle.model.specs.declared.Call.{Call}
 use Rattle.model.specs.declared.Call.the-variants.{Read, Write, Start, Send, Receive, Finish, Interrupt, Request, Take, Trigger}
 use Rattle.model.specs.View.{View}
@@ -27,7 +27,7 @@ use Rattle.model.specs.Decision.{Decision, effect}
 use Rattle.model.specs.Commands.{Single, isEntdaa, isRead, opened, begun}
 use Rattle.model.specs.Registers.{Cell, scratch, mask, ops, ibiConfig, devChar, offloadCmd, offloadSdo, Row, absent, shows, holds, pushes, takes, enables, acknowledges, row, enable, read, write}
 use Rattle.model.specs.Calls.{start, send, receive, finish, interrupt, request, takeAddress}
-use Rattle.model.specs.Bursts.{opening, lastly, delivered, dataWord, trigger, burstSend, burstReceive, burstFinish, decide}
+use Rattle.model.specs.Bursts.{opening, lastCommand, delivered, dataWord, trigger, burstSend, burstReceive, burstFinish, decide}
 use Rattle.model.specs.Engine.{step}
 use Rattle.model.specs.Rings.{Controller, viewRings, rings}
 use Rattle.model.specs.Demand.{snoc}
@@ -101,12 +101,12 @@ words-one ws k (x ∷ ts) t = go (bit 0 (getD ws k 0)) (words-one ws (suc k) ts 
     go false h = h
 
 -- ── How many words the reads have ─────────────────────────────────────────────────────────────────────────────
-bit-weighs : (x : ℕ) → x < 2 → x ≡ weigh (eqb x 1) 1
+bit-weighs : (x : ℕ) → x < 2 → x ≡ wordIf (eqb x 1) 1
 bit-weighs zero h = refl
 bit-weighs (suc zero) h = refl
 bit-weighs (suc (suc x)) h = absurd (omega arith)
 
-read-weighs : (w : ℕ) → bits 0 0 w ≡ weigh (bit 0 w) 1
+read-weighs : (w : ℕ) → bits 0 0 w ≡ wordIf (bit 0 w) 1
 read-weighs w = bit-weighs (bits 0 0 w) (let k : w / 1 % 2 < 2 = omega arith in k)
 
 words-count : (ws : List ℕ) (k : ℕ) (ts : List Moved) → readsIn k ws + length (readWords ws k ts) ≡ readsIn (k + length ts) ws
@@ -119,7 +119,7 @@ words-count ws k (t ∷ ts) =
     let e : suc k + length ts ≡ k + suc (length ts) = omega arith in
     go (bit 0 (getD ws k 0)) (read-weighs (getD ws k 0)) (words-count ws (suc k) ts ∙ ap (λ (n : ℕ). readsIn n ws) e)
   where
-    go : (b : Bool) → bits 0 0 (getD ws k 0) ≡ weigh b 1 → readsIn k ws + bits 0 0 (getD ws k 0) + length (readWords ws (suc k) ts) ≡ readsIn (k + suc (length ts)) ws
+    go : (b : Bool) → bits 0 0 (getD ws k 0) ≡ wordIf b 1 → readsIn k ws + bits 0 0 (getD ws k 0) + length (readWords ws (suc k) ts) ≡ readsIn (k + suc (length ts)) ws
         → readsIn k ws + length (cond b (packed 0 (t .received) ∷ readWords ws (suc k) ts) (readWords ws (suc k) ts)) ≡ readsIn (k + suc (length ts)) ws
     go true e h = omega (arith, e, h)
     go false e h = omega (arith, e, h)
@@ -149,7 +149,7 @@ words-done ws ts =
     f ∙ words-count ws 0 ts ∙ ap (λ (n : ℕ). readsIn n ws) e
 
 -- ── The output at a finish ────────────────────────────────────────────────────────────────────────────────────
-stored-word : (b : Bool) (xs o : List ℕ) (n u v : ℕ) → length xs ≡ n → n + weigh b 1 ≤ length o → (b ≡ true → u ≡ v) → cond b (set (xs ++ drop n o) n u) (xs ++ drop n o) ≡ xs ++ cond b (v ∷ []) [] ++ drop (n + weigh b 1) o
+stored-word : (b : Bool) (xs o : List ℕ) (n u v : ℕ) → length xs ≡ n → n + wordIf b 1 ≤ length o → (b ≡ true → u ≡ v) → cond b (set (xs ++ drop n o) n u) (xs ++ drop n o) ≡ xs ++ cond b (v ∷ []) [] ++ drop (n + wordIf b 1) o
 stored-word true xs o n u v e h p =
     let f : suc n ≡ n + 1 = omega arith in
     let l : n < length o = omega arith in
@@ -162,7 +162,7 @@ stored-word false xs o n u v e h p =
     let f : n ≡ n + 0 = omega arith in
     ap (λ (r : List ℕ). r ++ drop n o) (sym (append-nil xs)) ∙ ap (λ (k : ℕ). xs ++ [] ++ drop k o) f
 
--- r: a read is at hand; i: its place in the output; u: its word
+-- r: the open transfer is a read; i: its place in the output; u: its word
 output-one : (ws o out : List ℕ) (ts : List Moved) (t : Moved) (r : Bool) (i u : ℕ) → out ≡ readWords ws 0 ts ++ drop (readsIn (length ts) ws) o → readsIn (suc (length ts)) ws ≤ length o → r ≡ bit 0 (getD ws (length ts) 0) → i ≡ readsIn (length ts) ws
     → (bit 0 (getD ws (length ts) 0) ≡ true → u ≡ packed 0 (t .received)) → cond r (set out i u) out ≡ readWords ws 0 (snoc ts t) ++ drop (readsIn (length (snoc ts t)) ws) o
 unfolding readsIn
@@ -185,7 +185,7 @@ output-one ws o out ts t r i u e h f j p =
     ∙ ap (λ (m : ℕ). readWords ws 0 (snoc ts t) ++ drop (readsIn m ws) o) (sym (length-snoc ts t))
 
 -- ── What holds between calls ──────────────────────────────────────────────────────────────────────────────────
--- the transfer at hand: w is its command, d the data word that its place gives
+-- the open transfer: w is its command, d the data word that its place gives
 pub record AtHand (w d : ℕ) (t : Transfer) (now : Moved) : Type 0 where
   pub moved : t .moved .0 ≡ length (now .sent) + length (now .received)
   pub reads : bit 0 w ≡ true → (now .sent ≡ []) × (t .part ≡ packed 0 (now .received))
@@ -218,13 +218,23 @@ Stays l g c d =
     let h = noted g c (record { value = e .value; number = e .number }) in
     Passed d → suc (length (h .done)) ≤ span (l .bank .state .regs) → Going l (e .regs .ops) (e .control .burst) (e .phase) (e .tables .commands) (e .tables .payloads) (e .tables .output) h
 
--- ── The direction of the transfer at hand ─────────────────────────────────────────────────────────────────────
-is-reading : (b : Bool) (p : Phase) → eqb (stage p) (cond b 2 1) ≡ true → reading p ≡ b
+-- ── The direction of the open transfer ────────────────────────────────────────────────────────────────────────
+is-reading : (b : Bool) (p : Phase) → cond b (reading p) (writing p) ≡ true → reading p ≡ b
 is-reading true p e = e
-is-reading false p e = ap (λ (n : ℕ). eqb n 2) (eqb-true (stage p) 1 e)
+is-reading false Idle e = refl
+is-reading false (Writing t) e = refl
+is-reading false (Reading t) e = absurd (false≢true e)
+is-reading false (Unrequested t) e = refl
+is-reading false (Requested t) e = refl
+is-reading false (Answered t) e = refl
 
-is-writing : (b : Bool) (p : Phase) → eqb (stage p) (cond b 2 1) ≡ true → writing p ≡ not b
-is-writing true p e = ap (λ (n : ℕ). eqb n 1) (eqb-true (stage p) 2 e)
+is-writing : (b : Bool) (p : Phase) → cond b (reading p) (writing p) ≡ true → writing p ≡ not b
+is-writing true Idle e = refl
+is-writing true (Writing t) e = absurd (false≢true e)
+is-writing true (Reading t) e = refl
+is-writing true (Unrequested t) e = refl
+is-writing true (Requested t) e = refl
+is-writing true (Answered t) e = refl
 is-writing false p e = e
 
 -- ── A transfer opens ──────────────────────────────────────────────────────────────────────────────────────────
@@ -261,7 +271,7 @@ calm-if-quiet enables v h = absurd (false≢true h)
 calm-if-quiet acknowledges v h = refl
 
 calm-row : (o v : ℕ) → resets (Write o v) ≡ false → calm (row (registerAt o)) v ≡ true
-unfolding named find
+unfolding named entryAt
 calm-row o v h = go (eqb o 0x040) (eqb o 0x0d4) refl refl
   where
     go : (a b : Bool) → eqb o 0x040 ≡ a → eqb o 0x0d4 ≡ b → calm (row (registerAt o)) v ≡ true
@@ -376,7 +386,7 @@ module _ (l : Controller) (g : Log) (s : View) (h : GoesOn l s g) (o : Opened s)
         writes = λ z. absurd (true≢false (sym b ∙ z));
       })
 
-  -- the transfer at hand is done
+  -- the open transfer is done
   now-fits : Agrees (l .bank .commands) (l .bank .payloads) at (g .now)
   now-fits =
       let t = transfer (s .phase) in
@@ -409,7 +419,7 @@ module _ (l : Controller) (g : Log) (s : View) (h : GoesOn l s g) (o : Opened s)
       let n = length-snoc (g .done) (g .now) in
       let b = h .stands in
       let p = same-span in
-      let e : lastly s ≡ false = lt-leb (span (s .regs)) (s .control .burst) (omega (arith, k, n, b, p)) in
+      let e : lastCommand s ≡ false = lt-leb (span (s .regs)) (s .control .burst) (omega (arith, k, n, b, p)) in
       subst (λ (z : Bool). Going l (s .regs .ops) (cond z 0 (s .control .burst + 1)) (cond z Idle (opening s (s .control .burst))) (s .tables .commands) (s .tables .payloads) (delivered s .output) (record { done = snoc (g .done) (g .now); now = untouched })) (sym e)
       (record {
         sameOps = h .sameOps;

@@ -1,4 +1,4 @@
--- What ties a tally to a bank that is released, and how each event keeps it.
+-- The invariant of demand 3 between a tally and a bank that is released, and how each event keeps it.
 use Prim.Native.Nat.{ℕ, suc, _+_, _-_, _%_, _≤_, _<_, zero-le}
 use native.Mathlib.Omega.{arith}
 use mathlib.Core.Path.{_≡_, refl, ap, sym, _∙_, subst}

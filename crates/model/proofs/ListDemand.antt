@@ -20,7 +20,7 @@ use Rattle.model.specs.Decision.{Decision, first, effect}
 use Rattle.model.specs.Commands.{Command, firstWord, lengthOf, receiptWord}
 use Rattle.model.specs.Registers.{row}
 use Rattle.model.specs.Calls.{command, start, send, receive, finish, interrupt, request, takeAddress}
-use Rattle.model.specs.Bursts.{opening, lastly, trigger, burstSend, burstReceive, burstFinish, decide}
+use Rattle.model.specs.Bursts.{opening, lastCommand, trigger, burstSend, burstReceive, burstFinish, decide}
 use Rattle.model.specs.Engine.{outcome, step, Lent, stepLent, final}
 use Rattle.model.specs.Lists.{Lists, viewList, viewLists, settleLists, lists}
 use Rattle.model.specs.Demand.{Event, bus, started, sent, received, finished, addressed, other, Written, Tally, Run, event, follow, tally, directPhase, cut, joined, takenWords, allWords, Every, opt, Each, moved, ReceiptOf, Fitting, AllEnded, isOpen, receiptsOf, Demand3}
@@ -71,7 +71,7 @@ served-good o l (Receive b) h g f =
     (f .1)
 served-good o l (Finish code) h g f =
     of-two (Served o l (Finish code)) (bursting (l .control)) (burstFinish (viewLists l) code) (finish (viewLists l) code)
-    (λ e k. subst (Good (follow o (bus (finished code 0)))) (key-finished l (lastly (viewLists l)) (l .control .burst) (opening (viewLists l) (l .control .burst)) e) (stray-good o l (finished code 0) (finishes code 0) e g))
+    (λ e k. subst (Good (follow o (bus (finished code 0)))) (key-finished l (lastCommand (viewLists l)) (l .control .burst) (opening (viewLists l) (l .control .burst)) e) (stray-good o l (finished code 0) (finishes code 0) e g))
     (λ e k. to o l e (bus (finished code (receiptWord code (transfer (l .phase) .moved .0) (l .control .sync)))) (finish (viewLists l) code) refl (finish-good o l code (f .0) k (from o l e g)))
     (f .1 .1)
 served-good o l (Interrupt a b) h g f = interrupt-good o l a b g

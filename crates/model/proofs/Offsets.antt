@@ -1,4 +1,4 @@
--- The demand names four registers by their offsets. At every other offset the row is one that the demand does not count.
+-- Demand 3 counts accesses at four offsets. At every other the row is one that leaves what it speaks of alone.
 use Prim.Native.Nat.{ℕ, _-_, _/_}
 use mathlib.Core.Path.{_≡_, refl, subst}
 use mathlib.Core.Bool.{Bool, true, false, cond, _&&_, _||_, true≢false}
@@ -7,7 +7,7 @@ use lib.Dec.{eqb}
 use borrow.Author.Tests.{eqb-true}
 use Rattle.registers.specs.declared.Register.{Register}
 use Rattle.registers.specs.declared.Register.the-variants.{OffloadCmd, OffloadSdo, Unmapped}
-use Rattle.registers.specs.Map.{Entry, named, within, offload, find, registerAt}
+use Rattle.registers.specs.Map.{Entry, named, inMemory, offload, entryAt, registerAt}
 use Rattle.bank.proofs.Bools.{and-true}
 use Rattle.model.specs.View.{of, each}
 use Rattle.model.specs.Registers.{Row, absent, shows, holds, pushes, takes, enables, acknowledges, row}
@@ -48,19 +48,19 @@ module _ (P : Row → Bool) (j k off : ℕ) (nj : eqb off j ≡ false) (nk : eqb
       let z = eqb-true off (e .offset) m in
       either (P (row (e .register))) (eqb (e .offset) j) (eqb (e .offset) k) h (subst (λ (n : ℕ). eqb n j ≡ false) z nj) (subst (λ (n : ℕ). eqb n k ≡ false) z nk)
 
-  found : (es : List Entry) (d : Register) → P (row d) ≡ true → onlyAt P j k es ≡ true → P (row (find off es d)) ≡ true
-  unfolding find
+  found : (es : List Entry) (d : Register) → P (row d) ≡ true → onlyAt P j k es ≡ true → P (row (entryAt off es d)) ≡ true
+  unfolding entryAt
   found [] d h o = h
   found (e ∷ es) d h o = go (eqb off (e .offset)) refl (and-true (P (row (e .register)) || (eqb (e .offset) j || eqb (e .offset) k)) (onlyAt P j k es) o) (found es d h)
     where
-      go : (b : Bool) → eqb off (e .offset) ≡ b → ((P (row (e .register)) || (eqb (e .offset) j || eqb (e .offset) k)) ≡ true) × (onlyAt P j k es ≡ true) → (onlyAt P j k es ≡ true → P (row (find off es d)) ≡ true) → P (row (cond b (e .register) (find off es d))) ≡ true
+      go : (b : Bool) → eqb off (e .offset) ≡ b → ((P (row (e .register)) || (eqb (e .offset) j || eqb (e .offset) k)) ≡ true) × (onlyAt P j k es ≡ true) → (onlyAt P j k es ≡ true → P (row (entryAt off es d)) ≡ true) → P (row (cond b (e .register) (entryAt off es d))) ≡ true
       go true m h2 r = at-entry e (h2 .0) m
       go false m h2 r = r (h2 .1)
 
 -- the offload memories hold words, and what is in neither is absent
 offload-is : (P : Row → Bool) → ((i : ℕ) → P (row (OffloadCmd i)) ≡ true) → ((i : ℕ) → P (row (OffloadSdo i)) ≡ true) → P absent ≡ true → (o : ℕ) → P (row (offload o)) ≡ true
 unfolding offload
-offload-is P hc hw hu o = two (within 0x2c0 o) (within 0x300 o) ((o - 0x2c0) / 4) ((o - 0x300) / 4)
+offload-is P hc hw hu o = two (inMemory 0x2c0 o) (inMemory 0x300 o) ((o - 0x2c0) / 4) ((o - 0x300) / 4)
   where
     two : (a b : Bool) (i j : ℕ) → P (row (cond a (OffloadCmd i) (cond b (OffloadSdo j) Unmapped))) ≡ true
     two true b i j = hc i

@@ -1,4 +1,4 @@
--- A call keeps what well formed asks of the open transfer, outside a burst and inside one.
+-- `formed.kept`, of what is open: outside a burst, and in one.
 use Prim.Native.Nat.{ℕ, zero, suc, _+_, _-_, _*_, _/_, _%_, _^_, _≤_, _<_}
 use native.Mathlib.Omega.{arith}
 use mathlib.Core.Path.{_≡_, refl, ap, sym, _∙_, subst}
@@ -9,12 +9,13 @@ use lib.ListN.{getD, set}
 use lib.Count.{ones}
 use borrow.Author.Tests.{leb-true, leb-false, eqb-true, eqb-false, not-false, not-true, lt-ltb, le-leb, eq-eqb, ne-eqb}
 use Rattle.bank.specs.declared.Regs.{Regs}
+use Rattle.bank.specs.declared.State.{State}
 use Rattle.bank.specs.declared.Control.{Control}
 use Rattle.bank.specs.declared.Transfer.{Transfer}
 use Rattle.bank.specs.declared.Phase.{Phase}
 use Rattle.bank.specs.declared.Phase.the-variants.{Idle, Writing, Reading, Unrequested, Requested, Answered}
-use Rattle.bank.specs.Bits.{bit, bits, weigh}
-use Rattle.bank.specs.Phases.{stage, idle, writing, reading, assigning, requested, transfer, private, unattached, limit}
+use Rattle.bank.specs.Bits.{bit, bits, wordIf}
+use Rattle.bank.specs.Phases.{idle, writing, reading, assigning, requested, transfer, private, unattached, limit}
 use Rattle.bank.specs.Bursts.{offloads, span, carried, allCarried, bursting, place, opens, gatheredBytes}
 use Rattle.bank.specs.Formed.{transferOk, phaseOk, burstOk, openOk}
 use Rattle.bank.proofs.Bools.{or-left, and-true, three, five, all-three, all-five}
@@ -26,7 +27,7 @@ use Rattle.model.specs.Decision.{Decision, effect}
 use Rattle.model.specs.Commands.{Single, isEntdaa, isRead, kindOf, lengthOf, opened, begun}
 use Rattle.model.specs.Registers.{Cell, scratch, mask, ops, ibiConfig, devChar, offloadCmd, offloadSdo, Row, absent, shows, holds, pushes, takes, enables, acknowledges, row, storedRegs, storedTables, burstHolds, clears, enable, read, write}
 use Rattle.model.specs.Calls.{command, attached, advanced, start, send, receive, finish, interrupt, request, takeAddress}
-use Rattle.model.specs.Bursts.{standing, lastly, trigger, burstSend, burstReceive, burstFinish, decide}
+use Rattle.model.specs.Bursts.{burstAt, lastCommand, trigger, burstSend, burstReceive, burstFinish, decide}
 use Rattle.model.proofs.Tests.{Passed, of-two}
 use Rattle.model.proofs.Phases.{writing-is, reading-is, requested-assigns}
 use Rattle.model.proofs.Formed.{PhaseOk, phase-of, begun-ok, one-more, sent-ok, received-ok, requested-ok, taken-ok, idle-ok, clears-burst, read-untouched}
@@ -74,22 +75,22 @@ from-parts c g p ws h =
 
 pub record Opens (w : ℕ) (p : Phase) : Type 0 where
   pub kind : private (transfer p .kind) ≡ true
-  pub header : eqb (weigh (transfer p .header) 1) (bits 21 21 w) ≡ true
+  pub header : eqb (wordIf (transfer p .header) 1) (bits 21 21 w) ≡ true
   pub length : eqb (transfer p .length .0) (bits 19 8 w) ≡ true
-  pub stage : eqb (stage p) (cond (bit 0 w) 2 1) ≡ true
+  pub stage : cond (bit 0 w) (reading p) (writing p) ≡ true
 
 pub opens-parts : (w : ℕ) (p : Phase) → opens w p ≡ true → Opens w p
 opens-parts w p h =
     let t = transfer p in
     let k = private (t .kind) in
-    let x = eqb (weigh (t .header) 1) (bits 21 21 w) in
+    let x = eqb (wordIf (t .header) 1) (bits 21 21 w) in
     let l = eqb (t .length .0) (bits 19 8 w) in
-    let z = and-true (k && x && l) (eqb (stage p) (cond (bit 0 w) 2 1)) h in
+    let z = and-true (k && x && l) (cond (bit 0 w) (reading p) (writing p)) h in
     let y = three k x l (z .0) in
     record { kind = y .0; header = y .1; length = y .2; stage = z .1 }
 
 -- a write or a read is open, and no other
-staged : (b : Bool) (p : Phase) → eqb (stage p) (cond b 2 1) ≡ true → (idle p ≡ false) × (assigning p ≡ false)
+staged : (b : Bool) (p : Phase) → cond b (reading p) (writing p) ≡ true → (idle p ≡ false) × (assigning p ≡ false)
 staged true Idle e = absurd (false≢true e)
 staged false Idle e = absurd (false≢true e)
 staged b (Writing t) e = (refl, refl)
@@ -105,6 +106,15 @@ pub in-burst : (c : Control) (g : Regs) (p : Phase) (ws : List ℕ) → bursting
 in-burst c g p ws e h =
     let w = getD ws (place c) 0 in
     staged (bit 0 w) p (opens-parts w p (burst-parts c g p ws (burst-of c g p ws e h) .opens) .stage)
+
+-- where a burst stands: at one of fifteen commands at most, counted from 1
+pub burst-place : (st : State) (ws : List ℕ) → bursting (st .control) ≡ true → openOk (st .control) (st .regs) (st .phase) ws ≡ true → (st .control .burst ≤ 15) × (1 ≤ st .control .burst)
+burst-place st ws e h =
+    let n = st .control .burst in
+    let l = leb-true n (span (st .regs)) (burst-parts (st .control) (st .regs) (st .phase) ws (burst-of (st .control) (st .regs) (st .phase) ws e h) .stands) in
+    let m : st .regs .ops / 2 % 16 < 16 = omega arith in
+    let d = eqb-false n 0 (not-true (eqb n 0) e) in
+    (omega arith, omega arith)
 
 no-burst : (c : Control) (g : Regs) (p : Phase) (ws : List ℕ) → ((idle p ≡ false) × (assigning p ≡ false) → ⊥) → openOk c g p ws ≡ true → bursting c ≡ false
 no-burst c g p ws n h = go (bursting c) refl
@@ -148,7 +158,7 @@ at-most-four c g p ws e b =
     omega arith
 
 -- ── A transfer of a burst opens ───────────────────────────────────────────────────────────────────────────────
-header-same : (x : ℕ) → x < 2 → eqb (weigh (eqb x 1) 1) x ≡ true
+header-same : (x : ℕ) → x < 2 → eqb (wordIf (eqb x 1) 1) x ≡ true
 header-same zero h = refl
 header-same (suc zero) h = refl
 header-same (suc (suc x)) h = absurd (omega arith)
@@ -160,7 +170,7 @@ opening-ok w a = go (bit 0 w) refl
     l : ltb (bits 19 8 w) 4096 ≡ true
     l = lt-ltb (bits 19 8 w) 4096 (let k : w / 256 % 4096 < 4096 = omega arith in k)
 
-    x : eqb (weigh (bit 21 w) 1) (bits 21 21 w) ≡ true
+    x : eqb (wordIf (bit 21 w) 1) (bits 21 21 w) ≡ true
     x = header-same (bits 21 21 w) (let k : w / 2097152 % 2 < 2 = omega arith in k)
 
     y : eqb (bits 19 8 w) (bits 19 8 w) ≡ true
@@ -171,11 +181,11 @@ opening-ok w a = go (bit 0 w) refl
     go false e = (rw (x, y, e), rw (l, leb·zero (limit (Writing (opened (Single w) a)))))
 
 -- a burst that stands at the command k, whose transfer has just opened
-opened-ok : (c : Control) (g : Regs) (ws : List ℕ) (k : ℕ) (a : Bool) → offloads g ≡ true → allCarried (span g) ws ≡ true → k < span g → openOk (standing (k + 1) c) g (begun (Single (getD ws k 0)) a) ws ≡ true
+opened-ok : (c : Control) (g : Regs) (ws : List ℕ) (k : ℕ) (a : Bool) → offloads g ≡ true → allCarried (span g) ws ≡ true → k < span g → openOk (burstAt (k + 1) c) g (begun (Single (getD ws k 0)) a) ws ≡ true
 opened-ok c g ws k a m h l =
     let w = getD ws k 0 in
     let o = opening-ok w a in
-    let d = standing (k + 1) c in
+    let d = burstAt (k + 1) c in
     let e : place d ≡ k = omega arith in
     burst-ok d g (begun (Single w) a) ws (ap not (ne-eqb (k + 1) 0 (λ z. omega arith)))
     (from-parts d g (begun (Single w) a) ws (record { mode = m; carries = h; stands = le-leb (k + 1) (span g) (omega arith); opens = rw e (o .0); counts = o .1 }))
@@ -347,10 +357,10 @@ module _ (s : View) (h : Opened s) where
       let n = s .control .burst in
       let b = parts e in
       let w = getD (s .tables .commands) n 0 in
-      go (lastly s) refl (attached s (Single w)) (b .mode) (b .carries)
+      go (lastCommand s) refl (attached s (Single w)) (b .mode) (b .carries)
     where
-      go : (z : Bool) → lastly s ≡ z → (a : Bool) → offloads (s .regs) ≡ true → allCarried (span (s .regs)) (s .tables .commands) ≡ true → openOk (standing (cond z 0 (s .control .burst + 1)) (s .control)) (s .regs) (cond z Idle (begun (Single (getD (s .tables .commands) (s .control .burst) 0)) a)) (s .tables .commands) ≡ true
-      go true z a m k = direct-ok (standing 0 (s .control)) (s .regs) Idle (s .tables .commands) refl idle-ok
+      go : (z : Bool) → lastCommand s ≡ z → (a : Bool) → offloads (s .regs) ≡ true → allCarried (span (s .regs)) (s .tables .commands) ≡ true → openOk (burstAt (cond z 0 (s .control .burst + 1)) (s .control)) (s .regs) (cond z Idle (begun (Single (getD (s .tables .commands) (s .control .burst) 0)) a)) (s .tables .commands) ≡ true
+      go true z a m k = direct-ok (burstAt 0 (s .control)) (s .regs) Idle (s .tables .commands) refl idle-ok
       go false z a m k = opened-ok (s .control) (s .regs) (s .tables .commands) (s .control .burst) a m k (leb-false (span (s .regs)) (s .control .burst) z)
 
 pub open-kept : (s : View) (c : Call) → Opened s → Keeps s (decide s c)

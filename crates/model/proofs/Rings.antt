@@ -1,4 +1,4 @@
--- The rings do what the lists do.
+-- `queue.order`, of one settled call: the rings do what the lists do.
 use Prim.Native.Nat.{ℕ, _+_, _≤_, _<_}
 use native.Mathlib.Omega.{arith}
 use mathlib.Core.Path.{_≡_, refl, ap, sym, _∙_, subst}

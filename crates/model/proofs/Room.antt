@@ -1,4 +1,4 @@
--- A call that is not refused pushes only where there is room, and takes only what is there.
+-- Every effect fits its queues: a call that is not refused pushes only where there is room, and takes only what is there.
 use Prim.Native.Nat.{ℕ, zero, suc, _+_, _≤_}
 use native.Mathlib.Omega.{arith}
 use mathlib.Core.Path.{_≡_}
@@ -17,7 +17,7 @@ use Rattle.model.specs.Fits.{FitsIn, AllFit}
 use Rattle.model.specs.Decision.{QueueOp, keep, clear, take, push, push2, keepAll, only, Decision, effect}
 use Rattle.model.specs.Commands.{twoWords}
 use Rattle.model.specs.Registers.{Row, absent, shows, holds, pushes, takes, enables, acknowledges, row, enable, read, write}
-use Rattle.model.specs.Calls.{whole, wordCount, fresh, fills, padded, start, send, receive, finish, interrupt, request, takeAddress}
+use Rattle.model.specs.Calls.{whole, wordCount, firstOfWord, lastOfWord, padded, start, send, receive, finish, interrupt, request, takeAddress}
 use Rattle.model.specs.Bursts.{trigger, burstSend, burstReceive, burstFinish, decide}
 use Rattle.model.proofs.Tests.{Passed, of-two}
 
@@ -105,12 +105,12 @@ fits s Start f = fits-only s Cmd (take (wordCount (s .queues .cmd))) (command-th
 fits s Send f =
     of-two (Served s) (bursting (s .control)) (burstSend s) (send s)
     (λ e g. fits-none s)
-    (λ e g. fits-only s Sdo (cond (fresh (transfer (s .phase))) (take 1) keep) (if-take (fresh (transfer (s .phase))) (s .queues .sdo) (g .1 .1 .1 .1 .1 .0)))
+    (λ e g. fits-only s Sdo (cond (firstOfWord (transfer (s .phase))) (take 1) keep) (if-take (firstOfWord (transfer (s .phase))) (s .queues .sdo) (g .1 .1 .1 .1 .1 .0)))
     (f .1)
 fits s (Receive b) f =
     of-two (Served s) (bursting (s .control)) (burstReceive s b) (receive s b)
     (λ e g. fits-none s)
-    (λ e g. fits-only s Sdi _ (if-push (fills (transfer (s .phase))) _ (s .queues .sdi) (g .1 .1 .1 .1 .1 .0)))
+    (λ e g. fits-only s Sdi _ (if-push (lastOfWord (transfer (s .phase))) _ (s .queues .sdi) (g .1 .1 .1 .1 .1 .0)))
     (f .1)
 fits s (Finish code) f = of-two (Served s) (bursting (s .control)) (burstFinish s code) (finish s code) (λ e g. fits-none s) (λ e g. finish-fits s code g) (f .1 .1)
 fits s (Interrupt a b) f = fits-only s Ibi _ (room-there (s .queues .ibi) (f .1 .1 .1 .1 .1 .1 .0))

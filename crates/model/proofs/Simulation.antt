@@ -1,4 +1,4 @@
--- The ring engine follows the list engine, call by call, and every call keeps a bank well formed.
+-- The ring engine follows the list engine, call by call, and every call keeps a bank well formed (`formed.kept`).
 use Prim.Native.Nat.{ℕ}
 use mathlib.Core.Path.{_≡_, refl, ap, sym, _∙_, subst}
 use mathlib.Core.Bool.{Bool, true, false}

@@ -23,7 +23,7 @@ use Rattle.model.specs.Decision.{Effect, Decision, effect}
 use Rattle.model.specs.Commands.{Command, Single, isEntdaa, isRead, opened, begun}
 use Rattle.model.specs.Registers.{Row, absent, shows, holds, pushes, takes, enables, acknowledges, row, clears, enable, read, write}
 use Rattle.model.specs.Calls.{attached, start, send, receive, finish, interrupt, request, takeAddress}
-use Rattle.model.specs.Bursts.{standing, lastly, opening, trigger, burstSend, burstReceive, burstFinish, decide}
+use Rattle.model.specs.Bursts.{burstAt, lastCommand, opening, trigger, burstSend, burstReceive, burstFinish, decide}
 use Rattle.model.specs.Lists.{Lists, viewLists, settleLists}
 use Rattle.model.specs.Demand.{RunEvent, started, sent, received, addressed, finished, Run, Tally, bus, other, follow, count, countRun, change, opt, directPhase}
 use Rattle.model.proofs.Tests.{Passed, of-two}
@@ -81,7 +81,7 @@ write-steady s acknowledges v h f = h
 read-steady : (s : View) (x : Row) → Steady (s .control) (s .phase) → KeepsSteady s (read x s)
 read-steady s x h f = let u = read-untouched s x in rw (u .phaseSame) (same-steady (s .control) (effect (read x s) .control) (s .phase) (u .burstSame) h)
 
-next-steady : (z : Bool) (s : View) (n k : ℕ) → Steady (standing (cond z 0 n) (s .control)) (cond z Idle (opening s k))
+next-steady : (z : Bool) (s : View) (n k : ℕ) → Steady (burstAt (cond z 0 n) (s .control)) (cond z Idle (opening s k))
 next-steady true s n k b = absurd (false≢true b)
 next-steady false s n k b = opening-steady s k
 
@@ -94,7 +94,7 @@ steady-kept s Send h f = of-two (KeepsSteady s) (bursting (s .control)) (burstSe
 steady-kept s (Receive x) h f = of-two (KeepsSteady s) (bursting (s .control)) (burstReceive s x) (receive s x) (λ e g b. (refl, refl)) (λ e g. never (s .control) (effect (receive s x) .phase) e) (f .1)
 steady-kept s (Finish code) h f =
     of-two (KeepsSteady s) (bursting (s .control)) (burstFinish s code) (finish s code)
-    (λ e g. next-steady (lastly s) s (s .control .burst + 1) (s .control .burst))
+    (λ e g. next-steady (lastCommand s) s (s .control .burst + 1) (s .control .burst))
     (λ e g b. never (s .control) Idle e b)
     (f .1 .1)
 steady-kept s (Interrupt a b) h f = h
@@ -137,11 +137,11 @@ pub key-in : (l : Lists) (c : Control) (p p′ : Phase) → bursting c ≡ true 
 key-in l c p p′ e = ap (λ (b : Bool). keyAt (cond b Idle p) l) e ∙ sym (ap (λ (b : Bool). keyAt (cond b Idle p′) l) e)
 
 -- or ends
-closed : (z : Bool) (c : Control) (n : ℕ) (p : Phase) → Idle ≡ directPhase (standing (cond z 0 (n + 1)) c) (cond z Idle p)
+closed : (z : Bool) (c : Control) (n : ℕ) (p : Phase) → Idle ≡ directPhase (burstAt (cond z 0 (n + 1)) c) (cond z Idle p)
 closed true c n p = refl
 closed false c n p = sym (ap (λ (b : Bool). cond (not b) Idle p) (ne-eqb (n + 1) 0 (λ z. omega arith)))
 
-pub key-finished : (l : Lists) (z : Bool) (n : ℕ) (p : Phase) → bursting (l .control) ≡ true → key l ≡ keyAt (directPhase (standing (cond z 0 (n + 1)) (l .control)) (cond z Idle p)) l
+pub key-finished : (l : Lists) (z : Bool) (n : ℕ) (p : Phase) → bursting (l .control) ≡ true → key l ≡ keyAt (directPhase (burstAt (cond z 0 (n + 1)) (l .control)) (cond z Idle p)) l
 key-finished l z n p e = ap (λ (b : Bool). keyAt (cond b Idle (l .phase)) l) e ∙ ap (λ (q : Phase). keyAt q l) (closed z (l .control) n p)
 
 is-idle : (p : Phase) → idle p ≡ true → p ≡ Idle

@@ -7,11 +7,11 @@ use Rattle.model.specs.declared.Call.{Call}
 use Rattle.model.specs.declared.Call.the-variants.{Read, Write, Start, Send, Receive, Finish, Interrupt, Request, Take, Trigger}
 use Rattle.model.specs.Rings.{Controller, rings}
 use Rattle.model.specs.BurstLaw.{after}
-use Rattle.model.specs.Cases.{session, Line, _⇝_·_, answered, release}
+use Rattle.model.specs.Cases.{workedSession, Line, _⇝_·_, answered, release}
 
 -- the session with an output lent
 abbrev pub lent : List ℕ → Controller
-lent o = rings .lend o session
+lent o = rings .lend o workedSession
 
 unfoldable pub callsOf : List Line → List Call
 callsOf [] = []
@@ -34,21 +34,23 @@ sampling =
     ∷ Receive 1 ⇝ 0 · 20 ∷ Finish 0 ⇝ 0 · 14 ∷ Finish 8 ⇝ 0 · 0 ∷ Interrupt 8 0 ⇝ 0 · 6 ∷ Finish 6 ⇝ 0 · 0
     ∷ Read 0x100 ⇝ 0x8b · 0 ∷ Read 0x0d8 ⇝ 0 · 3 ∷ Read 0x0c8 ⇝ 3 · 0 ∷ Read 0x0cc ⇝ 0 · 0 ∷ Read 0x088 ⇝ 0x01 · 0 ∷ Start ⇝ 0 · 8 ∷ []
 
--- Device 9 is attached after the trigger and before its transfer opens; device 8 leaves while its transfer is open.
+-- Attachment is noted as a transfer opens (`burst.finish`): device 9 is attached after the trigger and before its own transfer opens,
+-- device 8 is detached while its transfer is open.
 unfoldable pub attaching : List Line
 attaching =
     release ⇝ 0 · 0 ∷ Write 0x180 0x1102 ⇝ 0 · 0 ∷ Write 0x2c0 0x110 ⇝ 0 · 0 ∷ Write 0x2c4 0x413 ⇝ 0 · 0 ∷ Write 0x300 0x5a000000 ⇝ 0 · 0 ∷ Write 0x100 0x05 ⇝ 0 · 0 ∷ Trigger ⇝ 0 · 0
     ∷ Write 0x180 0x1302 ⇝ 0 · 0 ∷ Write 0x180 0x1100 ⇝ 0 · 0 ∷ Send ⇝ 0x5a · 0 ∷ Finish 0 ⇝ 0 · 0 ∷ Receive 1 ⇝ 0 · 0 ∷ Receive 2 ⇝ 0 · 0 ∷ Receive 3 ⇝ 0 · 0 ∷ Receive 4 ⇝ 0 · 0 ∷ Finish 0 ⇝ 0 · 0 ∷ []
 
--- The numbers of the trigger in their order: 5, 8, 28, 29 for a CCC and for five bytes, 13, and 6 before 8.
+-- `trigger.tests`: the numbers of the trigger in their order, 5, 8, 28, 29 for a CCC and for five bytes, 13; and 6 before 8.
 unfoldable pub refusing : List Line
 refusing =
     Trigger ⇝ 0 · 5 ∷ release ⇝ 0 · 0 ∷ Trigger ⇝ 0 · 8 ∷ Write 0x100 0x01 ⇝ 0 · 0 ∷ Trigger ⇝ 0 · 28 ∷ Write 0x2c0 0x400010 ⇝ 0 · 0 ∷ Write 0x100 0x03 ⇝ 0 · 0 ∷ Trigger ⇝ 0 · 29
     ∷ Write 0x2c0 0x511 ⇝ 0 · 0 ∷ Trigger ⇝ 0 · 29 ∷ Write 0x2c0 0x411 ⇝ 0 · 0 ∷ Trigger ⇝ 0 · 13 ∷ Write 0x100 0 ⇝ 0 · 0 ∷ Write 0xd4 0x10 ⇝ 0 · 0 ∷ Start ⇝ 0x10 · 0 ∷ Trigger ⇝ 0 · 6 ∷ []
 
--- A burst of one read is open and the output is lent shorter: 13 at each event, right after 18; a reset closes the burst.
-unfoldable pub opened : List Line
-opened = release ⇝ 0 · 0 ∷ Write 0x180 0x1102 ⇝ 0 · 0 ∷ Write 0x2c0 0x411 ⇝ 0 · 0 ∷ Write 0x100 0x03 ⇝ 0 · 0 ∷ Trigger ⇝ 0 · 0 ∷ []
+-- `burst.output`: a burst of one read is open, and the output lent is too short: 13 at each event, right after 18. A reset closes the
+-- burst.
+unfoldable pub openedBurst : List Line
+openedBurst = release ⇝ 0 · 0 ∷ Write 0x180 0x1102 ⇝ 0 · 0 ∷ Write 0x2c0 0x411 ⇝ 0 · 0 ∷ Write 0x100 0x03 ⇝ 0 · 0 ∷ Trigger ⇝ 0 · 0 ∷ []
 
 unfoldable pub shortened : List Line
 shortened =
@@ -59,4 +61,4 @@ pub record BurstsWork : Type 0 where
   pub sampled : Works (0xffffffff ∷ 0xffffffff ∷ 0xffffffff ∷ 0xffffffff ∷ []) sampling (0x01020300 ∷ 0 ∷ 0 ∷ 0xffffffff ∷ [])
   pub attached : Works (0 ∷ []) attaching (0x01020304 ∷ [])
   pub refused : Works [] refusing []
-  pub shorter : answered (rings .lend [] (after (lent (0 ∷ [])) (callsOf opened))) shortened ≡ true
+  pub shorter : answered (rings .lend [] (after (lent (0 ∷ [])) (callsOf openedBurst))) shortened ≡ true

@@ -1,11 +1,13 @@
--- A burst from its trigger to its last finish, 02 §3: what its writes sent, what its reads left in the output, and that queues, syncs and
--- pending bits are as if its events had not been. Statement; proofs/BurstLaw.antt has the proof.
+-- A burst from its trigger to its last finish: what its writes sent (`burst.bytes`), what its reads left in the output (`burst.finish`),
+-- and that queues, syncs and pending bits are as if its events had not been (`burst.commands`). Statements; proofs/BurstLaw.antt has the
+-- proofs.
 use Prim.Native.Nat.{ℕ, zero, suc, _+_, _-_, _*_, _/_, _%_, _^_, _≤_}
 use mathlib.Core.Path.{_≡_}
 use mathlib.Core.Bool.{Bool, true, false, cond, not, _&&_}
 use mathlib.Core.List.{List, [], _∷_, _++_}
 use lib.Dec.{eqb}
 use lib.ListN.{length, getD, drop}
+use Rattle.number.specs.Names as number
 use Rattle.bank.specs.Queues.{queuesIn}
 use Rattle.bank.specs.declared.Answer.{Answer}
 use Rattle.bank.specs.Bits.{bit, bits}
@@ -74,12 +76,12 @@ logged g l [] = g
 logged g l (c ∷ cs) = logged (noted g c (step rings l c .answer)) (step rings l c .next) cs
 
 -- ── Bytes of words ────────────────────────────────────────────────────────────────────────────────────────────
--- "most significant first": the first n bytes of w
+-- the first n bytes of w, the most significant first: `payload.order`
 unfoldable pub leading : ℕ → ℕ → List ℕ
 leading zero w = []
 leading (suc n) w = snoc (leading n w) (w / 2 ^ (24 - 8 * n) % 256)
 
--- the word of these bytes from place j on, "padded with 0"
+-- the word that has these bytes from place j on, and 0 in its other places
 unfoldable pub packed : ℕ → List ℕ → ℕ
 packed j [] = 0
 packed j (b ∷ bs) = b * 2 ^ (24 - 8 * j) + packed (suc j) bs
@@ -104,7 +106,7 @@ readWords ws k (t ∷ ts) = cond (bit 0 (getD ws k 0)) (packed 0 (t .received) �
 -- l before the trigger, m after the last finish, n where the accesses alone were made, ts the transfers
 pub record Burst (l m n : Controller) (ts : List Moved) : Type 0 where
   pub transfers : EachAgrees (l .bank .commands) (l .bank .payloads) 0 ts
-  -- the output: "one per read command"; words past them stay
+  -- the output: a word for each read; the words behind these stay
   pub output : m .output ≡ readWords (l .bank .commands) 0 ts ++ drop (readsIn (span (l .bank .state .regs)) (l .bank .commands)) (l .output)
   -- the five queues, ENABLE, both syncs and the pending bits are what the accesses alone leave
   pub queues : queuesIn (m .bank) ≡ queuesIn (n .bank)
@@ -122,10 +124,10 @@ BurstLaw =
     suc (length (g .done)) ≡ span (l .bank .state .regs) → step rings m (Finish code) .answer .number ≡ 0
     → Burst l (step rings m (Finish code) .next) (after l (accesses cs)) (snoc (g .done) (g .now))
 
--- An interrupt request is answered 6 throughout.
+-- `burst.events`: after the trigger an interrupt request is answered 6 as long as the burst is open.
 unfoldable pub BurstIsBusy : Type 0
 BurstIsBusy =
     (l : Controller) (cs : List Call) (a byte : ℕ) → step rings l Trigger .answer .number ≡ 0 → noReset cs ≡ true → a ≤ 127
     → let b = step rings l Trigger .next in
     suc (length (logged (record { done = []; now = untouched }) b cs .done)) ≤ span (l .bank .state .regs)
-    → step rings (after b cs) (Interrupt a byte) .answer ≡ record { value = 0; number = 6 }
+    → step rings (after b cs) (Interrupt a byte) .answer ≡ record { value = 0; number = number.transferOpen }

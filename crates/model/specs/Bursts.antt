@@ -1,8 +1,9 @@
--- Offload bursts, 02 §3: the trigger, 01's events inside an open burst; and every call.
+-- Offload bursts, 02 §3: the trigger, and the events of 01 in an open burst; and `decide`, which is every call.
 use Prim.Native.Nat.{ℕ, _+_, _-_, _*_, _/_, _%_, _^_}
 use mathlib.Core.Bool.{Bool, false, cond, not, _&&_}
 use lib.Dec.{leb, ltb, eqb}
 use lib.ListN.{length, getD, set}
+use Rattle.number.specs.Names as number
 use Rattle.bank.specs.declared.Control.{Control}
 use Rattle.bank.specs.declared.Phase.{Phase}
 use Rattle.bank.specs.declared.Phase.the-variants.{Idle, Writing, Reading}
@@ -18,85 +19,92 @@ use Rattle.model.specs.Registers.{row, read, write}
 use Rattle.model.specs.Calls.{busy, attached, advanced, reached, allowed, start, send, receive, finish, interrupt, request, takeAddress}
 
 -- ── What a burst runs ─────────────────────────────────────────────────────────────────────────────────────────
--- "Its transfers open one after another, each noting attachment then": the transfer of the command at place k
+-- the transfer of the command at place k, which notes attachment as it opens: `trigger.opens`, `burst.finish`
 abbrev pub opening : View → ℕ → Phase
 opening s k = let c = Single (getD (s .tables .commands) k 0) in begun c (attached s c)
 
--- the burst stands at another command
-abbrev pub standing : ℕ → Control → Control
-standing n c = record { held = c .held; sync = c .sync; ibisync = c .ibisync; cmdrpending = c .cmdrpending; ibipending = c .ibipending; daapending = c .daapending; burst = n }
+-- the control bits where the burst stands at command n, counted from 1; 0 closes it
+abbrev pub burstAt : ℕ → Control → Control
+burstAt n c = record { held = c .held; sync = c .sync; ibisync = c .ibisync; cmdrpending = c .cmdrpending; ibipending = c .ibipending; daapending = c .daapending; burst = n }
 
--- "output shorter than the reads": the burst that OPS and the offload commands give needs a word for each of its reads
-abbrev pub lacking : View → Bool
-lacking s = ltb (length (s .tables .output)) (readsIn (span (s .regs)) (s .tables .commands))
+-- the lent output has fewer words than the burst of OPS and the offload commands has reads
+abbrev pub outputShort : View → Bool
+outputShort s = ltb (length (s .tables .output)) (readsIn (span (s .regs)) (s .tables .commands))
 
--- "13 output shorter than the reads (at each event in an open burst too, after 18 ..)"
-unfoldable pub short : View → Bool
-short s = bursting (s .control) && lacking s
+-- `burst.output`: 13 at any event, where a burst is open and the output is too short for it
+unfoldable pub shortInBurst : View → Bool
+shortInBurst s = bursting (s .control) && outputShort s
 
--- ── Trigger: "5 and 6 as for start, then 8 when mode is 0, 28 length field 0, 29 a command not carried, 13" ───
+-- ── Trigger ───────────────────────────────────────────────────────────────────────────────────────────────────
+-- `trigger.tests`, `trigger.opens`: the burst stands at its first command, whose transfer opens
 unfoldable pub trigger : View → Decision
 trigger s =
-    s .control .held ⇒ 5
-    ∣ busy s ⇒ 6
-    ∣ not (offloads (s .regs)) ⇒ 8
-    ∣ eqb (span (s .regs)) 0 ⇒ 28
-    ∣ not (allCarried (span (s .regs)) (s .tables .commands)) ⇒ 29
-    ∣ lacking s ⇒ 13
-    ∣ does (unchanged s withControl standing 1 (s .control) withPhase opening s 0)
+    s .control .held ⇒ number.heldInReset
+    ∣ busy s ⇒ number.transferOpen
+    ∣ not (offloads (s .regs)) ⇒ number.notInThisMode
+    ∣ eqb (span (s .regs)) 0 ⇒ number.burstHasNoCommands
+    ∣ not (allCarried (span (s .regs)) (s .tables .commands)) ⇒ number.notCarried
+    ∣ outputShort s ⇒ number.noRoom
+    ∣ does (unchanged s withControl burstAt 1 (s .control) withPhase opening s 0)
 
--- ── 01's events in an open burst ──────────────────────────────────────────────────────────────────────────────
--- "each private write has the next offload data word for its bytes, most significant first"
+-- ── Events in an open burst: `burst.events` ───────────────────────────────────────────────────────────────────
+-- `burst.bytes`: the data word of a write is told by how many writes stand before it
 abbrev pub dataWord : View → ℕ
 dataWord s = getD (s .tables .payloads) (writesIn (place (s .control)) (s .tables .commands)) 0
 
+-- `send.tests` without 12; the byte is the next of the data word, by how many have moved
 unfoldable pub burstSend : View → Decision
 burstSend s =
     let t = transfer (s .phase) in
-    s .control .held ⇒ 5
-    ∣ idle (s .phase) ⇒ 7
-    ∣ unattached (s .phase) ⇒ 20
-    ∣ not (writing (s .phase)) ⇒ 10
-    ∣ reached t ⇒ 11
+    s .control .held ⇒ number.heldInReset
+    ∣ idle (s .phase) ⇒ number.noTransfer
+    ∣ unattached (s .phase) ⇒ number.notAttached
+    ∣ not (writing (s .phase)) ⇒ number.notThisKind
+    ∣ reached t ⇒ number.lengthReached
     ∣ does (unchanged s withValue dataWord s / 2 ^ (24 - 8 * t .moved .0) % 256 withPhase Writing (advanced t 0))
 
+-- `receive.tests` without 13; up to four bytes stay in the part word
 unfoldable pub burstReceive : View → ℕ → Decision
 burstReceive s byte =
     let t = transfer (s .phase) in
-    s .control .held ⇒ 5
-    ∣ idle (s .phase) ⇒ 7
-    ∣ unattached (s .phase) ⇒ 20
-    ∣ not (reading (s .phase)) ⇒ 10
-    ∣ reached t ⇒ 11
+    s .control .held ⇒ number.heldInReset
+    ∣ idle (s .phase) ⇒ number.noTransfer
+    ∣ unattached (s .phase) ⇒ number.notAttached
+    ∣ not (reading (s .phase)) ⇒ number.notThisKind
+    ∣ reached t ⇒ number.lengthReached
     ∣ does (unchanged s withPhase Reading (advanced t (t .part + byte * 2 ^ (24 - 8 * t .moved .0))))
 
 -- the transfer is that of the last command
-abbrev pub lastly : View → Bool
-lastly s = leb (span (s .regs)) (s .control .burst)
+abbrev pub lastCommand : View → Bool
+lastCommand s = leb (span (s .regs)) (s .control .burst)
 
--- "Read bytes go to a lent output of words, one per read command at its finish, padded with 0"
+-- `burst.finish`: of a read the part word goes to the output, at the place that the number of reads before it tells
 abbrev pub delivered : View → Tables
 delivered s =
     let t = s .tables in
     let at = readsIn (place (s .control)) (t .commands) in
     record { flags = t .flags; commands = t .commands; payloads = t .payloads; output = cond (reading (s .phase)) (set (t .output) at (transfer (s .phase) .part)) (t .output) }
 
--- "Burst transfers queue no receipt (the finish's value is 0), use no sync"; "an error code doesn't stop it, and the last finish or a
--- reset closes it"
+-- `finish.tests` without 13; `burst.finish`: no receipt and no sync, the value 0, and after any code the next command's transfer opens,
+-- or after the last command the burst closes
 unfoldable pub burstFinish : View → ℕ → Decision
 burstFinish s code =
     let n = s .control .burst in
-    s .control .held ⇒ 5
-    ∣ idle (s .phase) ⇒ 7
-    ∣ not (allowed (s .phase) code) ⇒ 14
-    ∣ does (unchanged s withControl standing (cond (lastly s) 0 (n + 1)) (s .control) withPhase cond (lastly s) Idle (opening s n) withTables delivered s)
+    s .control .held ⇒ number.heldInReset
+    ∣ idle (s .phase) ⇒ number.noTransfer
+    ∣ not (allowed (s .phase) code) ⇒ number.endingNotAllowed
+    ∣ does (unchanged s withControl burstAt (cond (lastCommand s) 0 (n + 1)) (s .control) withPhase cond (lastCommand s) Idle (opening s n) withTables delivered s)
 
 -- ── Any call ──────────────────────────────────────────────────────────────────────────────────────────────────
--- an event: outside a burst as 01 says it, inside by the burst
-abbrev pub within : View → Decision → Decision → Decision
-within s inside outside = short s ⇒ 13 ∣ cond (bursting (s .control)) inside outside
+-- `burst.output`: the test of the lent output, ahead of an event's own
+abbrev pub outputFirst : View → Decision → Decision
+outputFirst s d = shortInBurst s ⇒ number.noRoom ∣ d
 
--- 18: the code of a finish or the address of an interrupt request is out of its range
+-- an event that an open burst serves: decided by `inside` in a burst, by `outside` else
+abbrev pub burstOr : View → Decision → Decision → Decision
+burstOr s inside outside = outputFirst s (cond (bursting (s .control)) inside outside)
+
+-- `answer.range`: the code of a finish, or the address of an interrupt request
 abbrev pub misfit : Call → Bool
 misfit (Read o) = false
 misfit (Write o v) = false
@@ -109,16 +117,17 @@ misfit (Request v w) = false
 misfit Take = false
 misfit Trigger = false
 
--- "21 goes first, then 22, then 18", then 13 in an open burst, "then the order given at each event". In an open burst a transfer is open
--- that is no ENTDAA, so a start and an interrupt request are 6, an address request and an address take 10.
+-- Every call. Of an event 18 comes first (`answer.range`), then 13 in an open burst (`burst.output`), then its own tests; the engine has
+-- 21 and 22 before them (`answer.bank`). In an open burst a private transfer is open, so by their own tests a start, a trigger and an
+-- interrupt request are 6, an address request and an address take 10 (`burst.events`).
 abbrev pub decide : View → Call → Decision
 decide s (Read o) = read (row (registerAt o)) s
 decide s (Write o v) = write (row (registerAt o)) s v
-decide s Start = short s ⇒ 13 ∣ start s
-decide s Send = within s (burstSend s) (send s)
-decide s (Receive byte) = within s (burstReceive s byte) (receive s byte)
-decide s (Finish code) = misfit (Finish code) ⇒ 18 ∣ within s (burstFinish s code) (finish s code)
-decide s (Interrupt a byte) = misfit (Interrupt a byte) ⇒ 18 ∣ short s ⇒ 13 ∣ interrupt s a byte
-decide s (Request v w) = short s ⇒ 13 ∣ request s v w
-decide s Take = short s ⇒ 13 ∣ takeAddress s
-decide s Trigger = short s ⇒ 13 ∣ trigger s
+decide s Start = outputFirst s (start s)
+decide s Send = burstOr s (burstSend s) (send s)
+decide s (Receive byte) = burstOr s (burstReceive s byte) (receive s byte)
+decide s (Finish code) = misfit (Finish code) ⇒ number.outOfRange ∣ burstOr s (burstFinish s code) (finish s code)
+decide s (Interrupt a byte) = misfit (Interrupt a byte) ⇒ number.outOfRange ∣ outputFirst s (interrupt s a byte)
+decide s (Request v w) = outputFirst s (request s v w)
+decide s Take = outputFirst s (takeAddress s)
+decide s Trigger = outputFirst s (trigger s)

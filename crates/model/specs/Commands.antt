@@ -1,4 +1,4 @@
--- Command words, and the words that answer them: 01, section 'Commands and receipts', and 004's formats.
+-- Words of commands, receipts and interrupt entries: 01, 'Commands and receipts', and the formats of 004.
 use Prim.Native.Nat.{ℕ, _+_, _*_, _%_, _^_}
 use mathlib.Core.Bool.{Bool, false, cond, not, _&&_}
 use mathlib.Core.List.{List, [], _∷_}
@@ -11,12 +11,12 @@ use Rattle.bank.specs.declared.Phase.{Phase}
 use Rattle.bank.specs.declared.Phase.the-variants.{Writing, Reading, Unrequested}
 use Rattle.bank.specs.Bits.{bit, bits}
 
--- "A CCC takes a second word"
+-- `command.ccc`: a CCC has two words, any other command one
 pub data Command : Type 0 where
   Single : ℕ → Command
   Ccc : ℕ → ℕ → Command
 
--- "22 CCC"
+-- `command.word`: bit 22 of the first word says that it is a CCC
 abbrev pub twoWords : ℕ → Bool
 twoWords w = bit 22 w
 
@@ -28,42 +28,43 @@ abbrev pub wordsOf : Command → List ℕ
 wordsOf (Single w) = w ∷ []
 wordsOf (Ccc w x) = w ∷ x ∷ []
 
--- "bit 7 direct"
+-- `command.ccc`: bit 7 of the second word tells a direct CCC from a broadcast one
 unfoldable pub kindOf : Command → Kind
 kindOf (Single w) = Private
 kindOf (Ccc w x) = cond (bit 7 x) Direct Broadcast
 
--- "low byte the code. ENTDAA is the code 0x07"
+-- `command.entdaa`: a CCC with the code 0x07, where all eight bits are compared
 unfoldable pub isEntdaa : Command → Bool
 isEntdaa (Single w) = false
 isEntdaa (Ccc w x) = eqb (x % 256) 0x07
 
--- "0 read"; ENTDAA "is neither"
+-- `command.word`: bit 0 says whether it is a read; `command.entdaa`: ENTDAA is neither a read nor a write
 unfoldable pub isRead : Command → Bool
 isRead c = not (isEntdaa c) && bit 0 (firstWord c)
 
 unfoldable pub isWrite : Command → Bool
 isWrite c = not (isEntdaa c) && not (bit 0 (firstWord c))
 
--- "19:8 length"; of ENTDAA "its length counts as 0"
+-- 01's term commanded length, in bytes; of ENTDAA it is 0: `command.word`, `command.entdaa`
 unfoldable pub lengthOf : Command → ℕ
 lengthOf c = cond (isEntdaa c) 0 (bits 19 8 (firstWord c))
 
--- "7:1 address"
+-- the address of the device that it names: `command.word`
 abbrev pub addressOf : Command → ℕ
 addressOf c = bits 7 1 (firstWord c)
 
--- the transfer that a command opens; "21 broadcast header"
+-- the transfer that a command opens (`start.opens`), with no byte moved and an empty part word; bit 21 is the header bit (`command.word`)
 abbrev pub opened : Command → Bool → Transfer
 opened c attached = record { kind = kindOf c; header = bit 21 (firstWord c); length = bytes (lengthOf c); moved = bytes 0; attached = attached; part = 0 }
 
+-- the phase that a command begins, told by its direction; ENTDAA begins with no request made
 unfoldable pub begun : Command → Bool → Phase
 begun c a = cond (isEntdaa c) (Unrequested (opened c a)) (cond (isRead c) (Reading (opened c a)) (Writing (opened c a)))
 
--- "Receipt: 23:20 error, 19:8 length, 7:0 sync"
+-- `receipt.word`: the code from bit 20 on, the bytes moved from bit 8 on, the sync in the low byte
 unfoldable pub receiptWord : ℕ → ℕ → ℕ → ℕ
 receiptWord code moved sync = code * 2 ^ 20 + moved * 2 ^ 8 + sync
 
--- "Interrupt entry: 23:17 address, 15:8 data byte, 7:0 its own sync"
+-- `entry.word`: the address from bit 17 on, the device's byte from bit 8 on, the sync of the entries in the low byte
 unfoldable pub entryWord : ℕ → ℕ → ℕ → ℕ
 entryWord address byte sync = address * 2 ^ 17 + byte * 2 ^ 8 + sync

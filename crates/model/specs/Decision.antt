@@ -1,4 +1,4 @@
--- What a call decides: tests in the papers' order, each with its number, and where none holds an effect.
+-- What a call decides: tests in their order, each with its number (`answer.order`), and an effect where none of them holds.
 use Prim.Native.Nat.{ℕ}
 use mathlib.Core.Bool.{Bool, cond}
 use mathlib.Core.Option.{Option, none, some}
@@ -8,6 +8,7 @@ use Rattle.bank.specs.declared.Phase.{Phase}
 use Rattle.model.specs.View.{Queue, Cmd, Cmdr, Sdo, Sdi, Ibi, Five, each, Tables, View}
 
 -- ── Effects ───────────────────────────────────────────────────────────────────────────────────────────────────
+-- what an effect does to one queue
 pub data QueueOp : Type 0 where
   keep clear : QueueOp
   take : ℕ → QueueOp  -- so many words
@@ -24,6 +25,7 @@ only Sdo o = each keep keep o keep keep
 only Sdi o = each keep keep keep o keep
 only Ibi o = each keep keep keep keep o
 
+-- the answer and all that a call changes
 pub record Effect : Type 0 where
   pub value : ℕ
   pub number : ℕ  -- 0 or 19; of a refusal, its number
@@ -33,7 +35,7 @@ pub record Effect : Type 0 where
   pub tables : Tables
   pub ops : Five QueueOp
 
--- nothing changes; "the value is 0 where none is named"
+-- `answer.pair`: no change, and the value 0, which stays where a rule names no other
 abbrev pub unchanged : View → Effect
 unchanged s = record { value = 0; number = 0; regs = s .regs; control = s .control; phase = s .phase; tables = s .tables; ops = keepAll }
 
@@ -61,16 +63,18 @@ abbrev pub _withQueues_ : Effect → Five QueueOp → Effect
 e withQueues o = record { value = e .value; number = e .number; regs = e .regs; control = e .control; phase = e .phase; tables = e .tables; ops = o }
 
 -- ── Decisions ─────────────────────────────────────────────────────────────────────────────────────────────────
+-- an effect behind tests: b ⇒ n ∣ d is refused with n where b holds, and else is d
 infixr 10 _⇒_∣_
 pub data Decision : Type 0 where
   does : Effect → Decision
   _⇒_∣_ : Bool → ℕ → Decision → Decision
 
--- "A number is given exactly when its condition holds and none before it in the order does."
+-- `answer.order`: the number of the first test that holds, if there is one
 abbrev pub first : Decision → Option ℕ
 first (does e) = none
 first (b ⇒ n ∣ d) = cond b (some n) (first d)
 
+-- what is done where no test holds
 abbrev pub effect : Decision → Effect
 effect (does e) = e
 effect (b ⇒ n ∣ d) = effect d

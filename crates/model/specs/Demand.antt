@@ -1,5 +1,5 @@
--- Demand 3, of paper 00, counted as 01's section 'What demand 3 counts' says: "a single claim about the whole list", from the calls and
--- their answers. "Only calls after the list's last release count."
+-- Demand 3 of paper 00: one statement about a whole list of calls from a fresh bank. What it speaks of is counted as 01 says, 'What
+-- demand 3 counts': from the calls and their answers, beginning anew at each release.
 use Prim.Native.Nat.{ℕ, suc, _+_, _-_, _%_, _≤_, _<_}
 use mathlib.Core.Path.{_≡_}
 use mathlib.Core.Bool.{Bool, true, false, cond, not, _||_}
@@ -7,6 +7,7 @@ use mathlib.Core.List.{List, [], _∷_, _++_}
 use mathlib.Core.Option.{Option, none, some}
 use lib.Dec.{ltb, eqb}
 use lib.ListN.{length, take}
+use Rattle.number.specs.Names as number
 use Rattle.bank.specs.Queues.{queuesIn}
 use Rattle.bank.specs.declared.Sizes.{Sizes}
 use Rattle.bank.specs.declared.Control.{Control}
@@ -42,13 +43,14 @@ pub data Event : Type 0 where
   gotReceipt : ℕ → Event  -- a read of CMDR answered 0, with its value
   other : Event
 
--- ENABLE is at 0x040, CMD at 0x0d4; "The room is read at 0x0c0", CMDR at 0x0d8
+-- ENABLE is at 0x040, CMD at 0x0d4, CMDR at 0x0d8; the room of CMD is read at 0x0c0
 abbrev pub writeEvent : ℕ → ℕ → Bool → Event
 writeEvent o v ok = cond (eqb o 0x040) (cond ok (enabled (bit 0 v)) other) (cond (eqb o 0x0d4) (word (wrote ok v)) other)
 
 abbrev pub readEvent : ℕ → ℕ → Bool → Event
 readEvent o v ok = cond (eqb o 0x0c0) (cond ok (word (sawRoom v)) other) (cond (eqb o 0x0d8) (cond ok (gotReceipt v) other) other)
 
+-- an address take answered 19 counts with those answered 0 (D5); a trigger and an interrupt request count for nothing
 abbrev pub event : Call → Answer → Event
 event (Read o) a = readEvent o (a .value) (eqb (a .number) 0)
 event (Write o v) a = writeEvent o v (eqb (a .number) 0)
@@ -58,7 +60,7 @@ event (Receive byte) a = cond (eqb (a .number) 0) (bus received) other
 event (Finish code) a = cond (eqb (a .number) 0) (bus (finished code (a .value))) other
 event (Interrupt d byte) a = other
 event (Request v w) a = cond (eqb (a .number) 0) (bus addressed) other
-event Take a = cond (eqb (a .number) 0 || eqb (a .number) 19) (bus addressed) other
+event Take a = cond (eqb (a .number) 0 || eqb (a .number) number.wrongParity) (bus addressed) other
 event Trigger a = other
 
 -- ── The tally since the last release ──────────────────────────────────────────────────────────────────────────
@@ -66,7 +68,7 @@ event Trigger a = other
 pub record Written : Type 0 where
   pub word : ℕ
   pub taken : Bool  -- answered 0
-  pub roomSeen : Bool  -- "after a read of the room above 0, made since the release, with no other command word written between"
+  pub roomSeen : Bool  -- the condition of `demand.room`: since the release the room was read above 0, and no word was written after that
   pub promised : Bool  -- the last read of the room, less the words written since, left a place for it
 
 pub record CmdLog : Type 0 where
@@ -78,7 +80,7 @@ pub record Ending : Type 0 where
   pub code : ℕ
   pub receipt : ℕ  -- the value of the finish
 
--- a start answered 0, and what was answered 0 while it was open: "until the next finish answered 0, which finishes it"
+-- 01's term of a command that is open: from a start answered 0 to the next finish answered 0. What was answered 0 meanwhile is counted.
 pub record Run : Type 0 where
   pub value : ℕ
   pub sends : ℕ
@@ -134,8 +136,8 @@ count t (finished code v) = record { words = t .words; past = t .past ++ opt (ch
 abbrev pub nothing : Tally
 nothing = record { words = record { written = []; roomSeen = false; credit = 0 }; past = []; now = none; receipts = [] }
 
--- none: held in reset, and nothing counts. "A reset is a write to ENABLE answered 0 with bit 0 set; a release is the first one with
--- bit 0 clear since set-up or a reset": a later one is no release.
+-- `demand.counted`, and 01's terms reset and release, told by writes to ENABLE answered 0: one with bit 0 set is a reset; one with bit 0
+-- clear is a release where none came since set-up or the last reset. none: in reset, and nothing counts.
 abbrev pub follow : Option Tally → Event → Option Tally
 follow none (enabled true) = none
 follow none (enabled false) = some nothing
@@ -155,7 +157,7 @@ unfoldable pub allWords : List Written → List ℕ
 allWords [] = []
 allWords (w ∷ ws) = w .word ∷ allWords ws
 
--- "The queue took the words of the CMD writes answered 0, in order."
+-- 01's term of the words that CMD took: those of the writes answered 0
 unfoldable pub takenWords : List Written → List ℕ
 takenWords [] = []
 takenWords (w ∷ ws) = let r = takenWords ws in cond (w .taken) (w .word ∷ r) r
@@ -164,7 +166,7 @@ unfoldable pub Every : (Written → Type 0) → List Written → Type 0
 Every P [] = Unit {0}
 Every P (w ∷ ws) = P w × Every P ws
 
--- "a word with bit 22 set and the next are one command, any other word is one. A last word with bit 22 set waits for its second."
+-- 01's cut of words into commands, from the front, by bit 22 (`command.ccc`); the first word of a CCC without its second is no command yet
 unfoldable pub cut : List ℕ → List Command
 cut [] = []
 cut (w ∷ []) = cond (twoWords w) [] (Single w ∷ [])
@@ -174,7 +176,7 @@ unfoldable pub joined : List Command → List ℕ
 joined [] = []
 joined (c ∷ cs) = wordsOf c ++ joined cs
 
--- the runs, from number i on, each with its command: "The n-th start answered 0 starts the n-th command"
+-- P holds of each run, from number i on, with the command of the same number; there are commands enough
 unfoldable pub Each : (ℕ → Run → Command → Type 0) → ℕ → List Run → List Command → Type 0
 Each P i [] cs = Unit {0}
 Each P i (r ∷ rs) [] = ⊥
@@ -189,17 +191,17 @@ taken t = takenWords (t .words .written)
 abbrev pub commands : Tally → List Command
 commands t = cut (taken t)
 
--- "Bytes moved for a command: the sends and receives answered 0 while it was open."
+-- 01's term of the bytes moved: sends and receives together
 abbrev pub moved : Run → ℕ
 moved r = r .sends + r .receives
 
--- "Its receipt is the value of the finish that finished it, with that finish's code as error", its length the bytes moved, "its sync the
--- number of earlier receipts modulo 256": the i runs before it, which have all ended (clause 3)
+-- the value of a finish is the receipt of its run (`receipt.word`): with the finish's code, the m bytes moved, and as sync (`receipt.sync`)
+-- the number i of the runs before it, modulo 256; these have all ended, by `finished` below
 abbrev pub ReceiptOf : ℕ → ℕ → Option Ending → Type 0
 ReceiptOf i m none = Unit {0}
 ReceiptOf i m (some e) = (e .code < 16) × (e .receipt ≡ receiptWord (e .code) m (i % 256))
 
--- "sends are answered 0 only for a write, receives only for a read, address requests and takes only for ENTDAA, which is neither"
+-- of `demand.finished`: the command's own words say whether bytes were sent or received, and whether addresses were asked for and taken
 pub record Fitting (r : Run) (c : Command) : Type 0 where
   pub sends : isWrite c ≡ false → r .sends ≡ 0
   pub receives : isRead c ≡ false → r .receives ≡ 0
@@ -226,42 +228,43 @@ receiptsOf [] = []
 receiptsOf (r ∷ rs) = receiptIn (r .ending) ++ receiptsOf rs
 
 -- ── The demand ────────────────────────────────────────────────────────────────────────────────────────────────
--- of a tally, whether a direct transfer is open at the end, and the words that CMD and CMDR then hold
+-- of a tally, whether a transfer outside a burst is open at the end, and the words that CMD and CMDR then hold
 pub record Demand3 (t : Tally) (transferOpen : Bool) (cmd cmdr : List ℕ) : Type 0 where
-  -- 1: "The bus started the first of these, in order, each once"
+  -- `demand.started`: run number n started command number n, and its value is that command's first word
   pub started : Each (λ i r c. r .value ≡ firstWord c) 0 (runs t) (commands t)
-  -- 2: "the rest still wait, in order": "CMD's entries from its head are exactly the words taken after those of the started commands"
+  -- `demand.started`: the words taken are those of the started commands and, behind them, those that CMD holds
   pub waiting : taken t ≡ joined (take (length (runs t)) (commands t)) ++ cmd
-  -- 3: "All that started have finished, save the last while it is open."
+  -- `demand.finished`: every run has ended but one that is open at the end, and one is open just where a transfer is
   pub finished : AllEnded (t .past)
   pub opened : isOpen (t .now) ≡ transferOpen
-  -- 4: "Each one finished queued one receipt, in that order, its sync .., its length the payload bytes moved for it"
+  -- `demand.finished`: the receipt of each run that ended
   pub receipted : Each (λ i r c. ReceiptOf i (moved r) (r .ending)) 0 (runs t) (commands t)
-  -- 5: "never above the commanded length"
+  -- `demand.finished`: no more bytes moved than the command's length
   pub bounded : Each (λ i r c. moved r ≤ lengthOf c) 0 (runs t) (commands t)
-  -- 6: bytes and addresses moved only as the command's own words allow
+  -- `demand.finished`: bytes and addresses moved only as the command's own words allow
   pub fitting : Each (λ i r c. Fitting r c) 0 (runs t) (commands t)
-  -- 7: "The receipts read, then those still queued, are exactly these."
+  -- `demand.receipts`: those read and, behind them, those in CMDR are the receipts of the runs
   pub receipts : t .receipts ++ cmdr ≡ receiptsOf (runs t)
-  -- 8: "Every command word written after a read of the room above 0 .. was taken"
+  -- `demand.room`: a word before which room was seen was taken
   pub room : Every (λ w. w .roomSeen ≡ true → w .taken ≡ true) (t .words .written)
-  -- stronger than asked: after a read of room r the next r words were taken
+  -- `demand.credit`: after a read of room r the next r words were taken; paper 00 does not ask for this
   pub credit : Every (λ w. w .promised ≡ true → w .taken ≡ true) (t .words .written)
-  -- 9: "Where each is written so, no command is missing."
+  -- `demand.room`: where room was seen before each word, all were taken
   pub complete : Every (λ w. w .roomSeen ≡ true) (t .words .written) → taken t ≡ allWords (t .words .written)
 
 -- ── Every list of calls ───────────────────────────────────────────────────────────────────────────────────────
+-- the tally of a list of calls on an engine, going on from o
 module _ {B : Type 0} (g : Engine B) where
   unfoldable pub tally : Option Tally → B → List Lent → Option Tally
   tally o b [] = o
   tally o b (c ∷ cs) = tally (follow o (event (c .call) (stepLent g b c .answer))) (stepLent g b c .next) cs
 
--- 02 §3: "demand 3 speaks of direct commands only": a transfer of a burst is none of theirs
+-- `demand.bursts`: a transfer of a burst is none of a direct command
 abbrev pub directPhase : Control → Phase → Phase
 directPhase c p = cond (bursting c) Idle p
 
--- "The fresh bank comes from a set-up answered 0; its store may hold anything." The list ends released: its tally is some t. 02 §3: it
--- "holds with triggers in its list", whatever output each call is lent.
+-- Demand 3, of every list that ends released, so that its tally is some t, from a fresh bank: 01's term for the bank of any set-up answered
+-- 0, with any words in its store. `demand.bursts`: triggers may be in the list, and each call is lent any output.
 unfoldable pub Demand : Type 0
 Demand =
     (caps marks : Sizes) (id : ℕ) (store : List ℕ) (cs : List Lent) (t : Tally) → setUp caps marks id .answer .number ≡ 0

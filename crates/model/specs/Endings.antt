@@ -1,5 +1,5 @@
--- The table of endings: which codes may end a transfer, by its kind, direction, header bit, length and the bytes moved.
--- docs/ENDINGS.md is the same table as a page. Statement: the definition of `allowed` is this table.
+-- `finish.codes` as a table: which codes may end a transfer, by its kind, direction, header bit, length and the bytes moved.
+-- docs/ENDINGS.md is the same table as a page. The statement is that the definition `allowed` is this table.
 use Prim.Native.Nat.{ℕ}
 use mathlib.Core.Path.{_≡_}
 use mathlib.Core.Bool.{Bool, true, false, cond, _&&_, _||_}
@@ -12,7 +12,7 @@ use Rattle.bank.specs.declared.Phase.the-variants.{Writing, Reading, Unrequeste
 use Rattle.bank.specs.Phases.{unattached}
 use Rattle.model.specs.Calls.{allowed}
 
--- 004's codes: 0 no error, 1 CE0, 4 CE2, 6 NACK
+-- `receipt.codes`: 0, 1 (CE0), 4 (CE2), 6 (NACK); 8 has a row of its own
 pub record Codes : Type 0 where
   pub done : Bool
   pub ce0 : Bool
@@ -65,7 +65,7 @@ endingsOf reads t = endings (t .kind) reads (t .header) (stageOf (t .moved .0) (
 pub record Endings : Type 0 where
   pub writes : (t : Transfer) (code : ℕ) → unattached (Writing t) ≡ false → allowed (Writing t) code ≡ permits (endingsOf false t) code
   pub reads : (t : Transfer) (code : ℕ) → unattached (Reading t) ≡ false → allowed (Reading t) code ≡ permits (endingsOf true t) code
-  -- "device unattached, code 8 only"
+  -- a device that was not attached: 8 alone
   pub absent : (p : Phase) (code : ℕ) → unattached p ≡ true → allowed p code ≡ eqb code 8
   -- ENTDAA: no request made, one open, some made and none open
   pub unrequested : (t : Transfer) (code : ℕ) → allowed (Unrequested t) code ≡ permits (codes true false true false) code

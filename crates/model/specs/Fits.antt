@@ -1,4 +1,4 @@
--- When an operation fits a queue: it pushes only where there is room, and takes only what is there.
+-- When an operation fits a queue: it pushes only where there is room, and takes only what is there. Code that settles an effect asks this.
 use Prim.Native.Nat.{ℕ, _+_, _≤_}
 use Rattle.model.specs.View.{Queue, Five, of, QueueView}
 use Rattle.model.specs.Decision.{QueueOp, keep, clear, take, push, push2}

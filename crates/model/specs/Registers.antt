@@ -1,8 +1,9 @@
--- One row for each register of 01's map: what a read is answered and what a write does follow from the row.
+-- One row for each register of 01's map: what a read is answered and what a write does follow from the row alone.
 use Prim.Native.Nat.{ℕ, _+_, _*_, _%_, _^_}
 use mathlib.Core.Bool.{Bool, true, false, cond, not, _&&_}
 use lib.Dec.{ltb}
 use lib.ListN.{getD, set}
+use Rattle.number.specs.Names as number
 use Rattle.bank.specs.declared.Regs.{Regs}
 use Rattle.bank.specs.declared.Control.{Control}
 use Rattle.bank.specs.declared.Phase.the-variants.{Idle}
@@ -11,47 +12,49 @@ use Rattle.bank.specs.Bursts.{bursting}
 use Rattle.bank.specs.SetUp.{cleared}
 use Rattle.registers.specs.declared.Register.{Register}
 use Rattle.registers.specs.declared.Register.the-variants.{Version, Id, Scratch, Enable, IrqMask, IrqPending, IrqSource, CmdRoom, CmdrLevel, SdoRoom, SdiLevel, IbiLevel, CmdFifo, CmdrFifo, SdoFifo, SdiFifo, IbiFifo, FifoStatus, Ops, IbiConfig, DevChar, OffloadCmd, OffloadSdo, Unmapped}
-use Rattle.bank.specs.Bits.{bit, bits, weigh}
+use Rattle.bank.specs.Bits.{bit, bits, wordIf}
 use Rattle.model.specs.View.{Queue, Cmd, Cmdr, Sdo, Sdi, Ibi, each, of, room, empty, full, last, Tables, View}
 use Rattle.model.specs.Decision.{clear, take, push, only, Effect, unchanged, _withValue_, _withRegs_, _withControl_, _withPhase_, _withTables_, _withQueues_, Decision, does, _⇒_∣_}
 
--- what a register that stores something stores
+-- the registers that keep what is written
 pub data Cell : Type 0 where
   scratch mask ops ibiConfig devChar : Cell
   offloadCmd offloadSdo : ℕ → Cell
 
+-- what a register does with reads and writes
 pub data Row : Type 0 where
-  absent : Row
-  shows : (View → ℕ) → Row  -- read-only
+  absent : Row  -- no register: `map.offsets`
+  shows : (View → ℕ) → Row  -- a read gives the number, a write is refused: `map.read-only`
   holds : Cell → Row
-  pushes takes : Queue → Row  -- "write pushes, read gives 0"; "read takes, write is answer 2"
+  pushes takes : Queue → Row  -- a write puts a word into the queue, a read gives 0; a read takes the first word, a write is refused
   enables acknowledges : Row  -- ENABLE; IRQ_PENDING
 
 -- ── The table ─────────────────────────────────────────────────────────────────────────────────────────────────
--- the flags of the device at an address: bit 0 attached, bit 1 may interrupt, bit 2 sends a data byte
+-- `device.flags`, of the device at an address: bit 0 attached, bit 1 may interrupt, bit 2 sends a data byte
 abbrev pub device : ℕ → View → ℕ
 device a s = getD (s .tables .flags) a 0
 
--- "Source bits: 0 CMD level below its watermark; 1 CMDR above; 2 SDO below; 3 SDI above; 4 IBI above"; 5 to 7 are the pending bits.
--- Those are kept that the mask m has.
+-- the interrupt sources that the mask m has: `source.levels` for bits 0 to 4, then the pending bits, `source.receipt`, `source.interrupt`
+-- and `source.address`
 abbrev pub sources : ℕ → View → ℕ
 sources m s =
     let q = s .queues in
     let w = s .regs .marks in
     let c = s .control in
-    weigh (ltb (q .cmd .level) (w .cmd .0) && bit 0 m) 1
-    + weigh (ltb (w .cmdr .0) (q .cmdr .level) && bit 1 m) 2
-    + weigh (ltb (q .sdo .level) (w .sdo .0) && bit 2 m) 4
-    + weigh (ltb (w .sdi .0) (q .sdi .level) && bit 3 m) 8
-    + weigh (ltb (w .ibi .0) (q .ibi .level) && bit 4 m) 16
-    + weigh (c .cmdrpending && bit 5 m) 32
-    + weigh (c .ibipending && bit 6 m) 64
-    + weigh (c .daapending && bit 7 m) 128
+    wordIf (ltb (q .cmd .level) (w .cmd .0) && bit 0 m) 1
+    + wordIf (ltb (w .cmdr .0) (q .cmdr .level) && bit 1 m) 2
+    + wordIf (ltb (q .sdo .level) (w .sdo .0) && bit 2 m) 4
+    + wordIf (ltb (w .sdi .0) (q .sdi .level) && bit 3 m) 8
+    + wordIf (ltb (w .ibi .0) (q .ibi .level) && bit 4 m) 16
+    + wordIf (c .cmdrpending && bit 5 m) 32
+    + wordIf (c .ibipending && bit 6 m) 64
+    + wordIf (c .daapending && bit 7 m) 128
 
--- "bit 2 SDI, bit 1 IBI, bit 0 CMDR empty"
+-- `status.read`: a bit for each queue that the driver reads, set where it is empty
 abbrev pub status : View → ℕ
-status s = weigh (empty (s .queues .cmdr)) 1 + weigh (empty (s .queues .ibi)) 2 + weigh (empty (s .queues .sdi)) 4
+status s = wordIf (empty (s .queues .cmdr)) 1 + wordIf (empty (s .queues .ibi)) 2 + wordIf (empty (s .queues .sdi)) 4
 
+-- the row of each register. Those that show a number: `version.value`, `id.value`, `source.read`, `room.read`, `level.read`, `status.read`.
 abbrev pub row : Register → Row
 row Version = shows (λ s. 0x00000100)
 row Id = shows (λ s. s .regs .id)
@@ -79,19 +82,19 @@ row (OffloadSdo i) = holds (offloadSdo i)
 row Unmapped = absent
 
 -- ── Stored fields ─────────────────────────────────────────────────────────────────────────────────────────────
--- What a read gives. OPS: "bit 7 read-only, 1 when no transfer is open". IBI_CONFIG is write-only: "Reads of write-only registers give
--- 0." DEV_CHAR: "Reads show the selected address and its flags", at 15:9 and 3:1.
+-- What a read gives: of OPS bit 7 from the phase (`ops.keeps`), of IBI_CONFIG 0 (`map.write-only`), of DEV_CHAR the selected address and
+-- its flags (`dev-char.read`), of the others what was written.
 abbrev pub shown : Cell → View → ℕ
 shown scratch s = s .regs .scratch
 shown mask s = s .regs .mask
-shown ops s = weigh (idle (s .phase)) 128 + s .regs .ops
+shown ops s = wordIf (idle (s .phase)) 128 + s .regs .ops
 shown ibiConfig s = 0
 shown devChar s = s .regs .selected * 2 ^ 9 + device (s .regs .selected) s * 2
 shown (offloadCmd i) s = getD (s .tables .commands) i 0
 shown (offloadSdo i) s = getD (s .tables .payloads) i 0
 
--- What a write keeps: "Unnamed bits are ignored on write .. where an entry of this map names no bits, all 32 are kept". IRQ_MASK has
--- 7:0, OPS 6:0, IBI_CONFIG 1:0. DEV_CHAR: "15:9 address .. Every write selects the address".
+-- What a write keeps among the registers, by `map.bits`: `scratch.keeps`, `mask.keeps`, `ops.keeps`, `ibi-config.keeps`,
+-- `dev-char.select`.
 abbrev pub storedRegs : Cell → ℕ → Regs → Regs
 storedRegs scratch v g = record { id = g .id; scratch = v; mask = g .mask; ops = g .ops; config = g .config; selected = g .selected; marks = g .marks }
 storedRegs mask v g = record { id = g .id; scratch = g .scratch; mask = v % 2 ^ 8; ops = g .ops; config = g .config; selected = g .selected; marks = g .marks }
@@ -101,7 +104,8 @@ storedRegs devChar v g = record { id = g .id; scratch = g .scratch; mask = g .ma
 storedRegs (offloadCmd i) v g = g
 storedRegs (offloadSdo i) v g = g
 
--- "bit 8 write enable, bit 3 sends a data byte, bit 2 may interrupt, bit 1 attached .. with bit 8 set it also stores the three flags"
+-- What a write keeps in the tables: `dev-char.flags`, `offload.keeps`. Of the devices' flags no other definition writes any
+-- (`device.writer`).
 abbrev pub storedTables : Cell → ℕ → Tables → Tables
 storedTables scratch v t = t
 storedTables mask v t = t
@@ -111,7 +115,7 @@ storedTables devChar v t = record { flags = cond (bit 8 v) (set (t .flags) (bits
 storedTables (offloadCmd i) v t = record { flags = t .flags; commands = set (t .commands) i v; payloads = t .payloads; output = t .output }
 storedTables (offloadSdo i) v t = record { flags = t .flags; commands = t .commands; payloads = set (t .payloads) i v; output = t .output }
 
--- 02 §3: "While a burst is open, writes to OPS and both offload memories are dropped whole (6, after 4)."
+-- `burst.holds`: the registers that an open burst holds
 abbrev pub burstHolds : Cell → Bool
 burstHolds scratch = false
 burstHolds mask = false
@@ -122,11 +126,12 @@ burstHolds (offloadCmd i) = true
 burstHolds (offloadSdo i) = true
 
 -- ── Control bits ──────────────────────────────────────────────────────────────────────────────────────────────
--- other pending bits: 5 receipt, 6 interrupt, 7 address request
+-- the control bits with these pending bits: r is bit 5 (receipt), i bit 6 (interrupt), a bit 7 (address request)
 abbrev pub pending : Bool → Bool → Bool → Control → Control
 pending r i a c = record { held = c .held; sync = c .sync; ibisync = c .ibisync; cmdrpending = r; ibipending = i; daapending = a; burst = c .burst }
 
--- "A read that empties CMDR clears bit 5, IBI bit 6; an accepted SDO write clears bit 7": where b holds
+-- where b holds, the pending bit of the queue is cleared: of CMDR bit 5 (`source.receipt`), of IBI bit 6 (`source.interrupt`), of SDO bit 7
+-- (`source.address`)
 abbrev pub clears : Queue → Bool → Control → Control
 clears Cmd b c = c
 clears Cmdr b c = pending (not b && c .cmdrpending) (c .ibipending) (c .daapending) c
@@ -134,38 +139,44 @@ clears Sdo b c = pending (c .cmdrpending) (c .ibipending) (not b && c .daapendin
 clears Sdi b c = c
 clears Ibi b c = pending (c .cmdrpending) (not b && c .ibipending) (c .daapending) c
 
--- "a 1 written to bits 5 to 7 clears that pending bit"
+-- `pending.clear`: the pending bits without those at which v has a 1
 abbrev pub acknowledged : ℕ → Control → Control
 acknowledged v c = pending (not (bit 5 v) && c .cmdrpending) (not (bit 6 v) && c .ibipending) (not (bit 7 v) && c .daapending) c
 
+-- the control bits out of reset; nothing else of them changes
 abbrev pub released : Control → Control
 released c = record { held = false; sync = c .sync; ibisync = c .ibisync; cmdrpending = c .cmdrpending; ibipending = c .ibipending; daapending = c .daapending; burst = c .burst }
 
--- "Writing 1 resets queues, transfer, pending bits and syncs and holds them; other registers and the device table stay. Writing 0
--- then releases; once released it changes nothing." Of a burst, "the last finish or a reset closes it".
+-- bit 0 written to ENABLE: 1 is `enable.reset`, which closes an open burst too (`cleared`) and leaves registers and tables
+-- (`enable.keeps`); 0 is `enable.release`
 unfoldable pub enable : View → Bool → Effect
 enable s true = unchanged s withControl cleared true withPhase Idle withQueues each clear clear clear clear clear
 enable s false = unchanged s withControl released (s .control)
 
 -- ── Reads and writes, by their row ────────────────────────────────────────────────────────────────────────────
--- "For accesses: 21, 22, 4, 2, 5, 1, 3", with 02 §3's 6 after 4; 21 and 22 stand before every call
+-- A read, by the register's row (`access.order`; 21 and 22 are the engine's). Without a register it is 4. Of CMDR, SDI and IBI the first
+-- word leaves the queue, and 3 is for an empty one (`take.read`); every other read changes nothing (`map.reads`). CMD and SDO give 0
+-- (`map.write-only`), ENABLE 1 in reset (`enable.release`), IRQ_PENDING the sources of the mask (`pending.read`).
 abbrev pub read : Row → View → Decision
-read absent s = true ⇒ 4 ∣ does (unchanged s)
+read absent s = true ⇒ number.noRegister ∣ does (unchanged s)
 read (shows f) s = does (unchanged s withValue f s)
 read (holds c) s = does (unchanged s withValue shown c s)
 read (pushes q) s = does (unchanged s)
 read (takes q) s =
     let v = of q (s .queues) in
-    empty v ⇒ 3 ∣ does (unchanged s withValue v .first withControl clears q (last v) (s .control) withQueues only q (take 1))
-read enables s = does (unchanged s withValue weigh (s .control .held) 1)
-read acknowledges s = does (unchanged s withValue sources (s .regs .mask) s)  -- "reads source AND mask"
+    empty v ⇒ number.empty ∣ does (unchanged s withValue v .first withControl clears q (last v) (s .control) withQueues only q (take 1))
+read enables s = does (unchanged s withValue wordIf (s .control .held) 1)
+read acknowledges s = does (unchanged s withValue sources (s .regs .mask) s)
 
+-- A write, by the register's row (`access.order`). Without a register it is 4, to one that is only read 2 (`map.read-only`), to one that an
+-- open burst holds 6 (`burst.holds`). CMD and SDO take the word, with 5 in reset and 1 where they are full (`cmd.push`, `sdo.push`). All
+-- else is 0, whatever bits are set (`map.ignored`).
 abbrev pub write : Row → View → ℕ → Decision
-write absent s v = true ⇒ 4 ∣ does (unchanged s)
-write (shows f) s v = true ⇒ 2 ∣ does (unchanged s)
-write (holds c) s v = burstHolds c && bursting (s .control) ⇒ 6 ∣ does (unchanged s withRegs storedRegs c v (s .regs) withTables storedTables c v (s .tables))
+write absent s v = true ⇒ number.noRegister ∣ does (unchanged s)
+write (shows f) s v = true ⇒ number.droppedReadOnly ∣ does (unchanged s)
+write (holds c) s v = burstHolds c && bursting (s .control) ⇒ number.transferOpen ∣ does (unchanged s withRegs storedRegs c v (s .regs) withTables storedTables c v (s .tables))
 write (pushes q) s v =
-    s .control .held ⇒ 5 ∣ full (of q (s .queues)) ⇒ 1 ∣ does (unchanged s withControl clears q true (s .control) withQueues only q (push v))
-write (takes q) s v = true ⇒ 2 ∣ does (unchanged s)
+    s .control .held ⇒ number.heldInReset ∣ full (of q (s .queues)) ⇒ number.droppedFull ∣ does (unchanged s withControl clears q true (s .control) withQueues only q (push v))
+write (takes q) s v = true ⇒ number.droppedReadOnly ∣ does (unchanged s)
 write enables s v = does (enable s (bit 0 v))
 write acknowledges s v = does (unchanged s withControl acknowledged v (s .control))

@@ -1,9 +1,10 @@
--- The ring engine: a bank, its lent store and the lent output. Promises cite this one.
+-- The ring engine: a bank, the store with its queues, and the output. The promises of functions cite this engine.
 use Prim.Native.Nat.{ℕ, _+_}
 use mathlib.Core.Bool.{not}
 use mathlib.Core.List.{List}
 use lib.Dec.{eqb}
 use lib.ListN.{length, getD, set}
+use Rattle.number.specs.Names as number
 use Rattle.ring.specs.declared.Ring.{Ring}
 use Rattle.ring.specs.Ring.{placeOf, pushedOf, takenOf, clearedOf, entries}
 use Rattle.bank.specs.declared.Counts.{Counts}
@@ -15,12 +16,14 @@ use Rattle.model.specs.View.{Five, each, QueueView, View}
 use Rattle.model.specs.Decision.{QueueOp, keep, clear, take, push, push2, Effect, Decision, _⇒_∣_}
 use Rattle.model.specs.Engine.{Engine}
 
+-- the state of the ring engine: a bank, the lent store, and the output that is lent to a call
 pub record Controller : Type 0 where
   pub bank : Bank
   pub store : List ℕ
   pub output : List ℕ
 
--- ── Areas: "in one lent store of 32-bit words, end to end: CMD, CMDR, SDO, SDI, IBI" ──────────────────────────
+-- ── Areas: `store.order` ──────────────────────────────────────────────────────────────────────────────────────
+-- a queue's ring, and the place in the store where its area begins
 pub record Area : Type 0 where
   pub ring : Ring
   pub base : ℕ
@@ -28,6 +31,7 @@ pub record Area : Type 0 where
 abbrev pub area : Ring → ℕ → Area
 area r b = record { ring = r; base = b }
 
+-- where the area of each queue behind CMD begins, by the capacities
 abbrev pub cmdrAt : Counts → ℕ
 cmdrAt k = k .cmd .0
 
@@ -67,6 +71,7 @@ viewRings l =
     }
 
 -- ── What an effect does ───────────────────────────────────────────────────────────────────────────────────────
+-- what an operation does to a ring's first place and level: `ring.push`, `ring.take`, `ring.clear`
 unfoldable pub onRing : QueueOp → Ring → Ring
 onRing keep r = r
 onRing clear r = clearedOf r
@@ -74,7 +79,8 @@ onRing (take k) r = takenOf r k
 onRing (push w) r = pushedOf r
 onRing (push2 v w) r = pushedOf (pushedOf r)
 
--- "a push writes one store word, at (head + level) modulo capacity within its queue; a take writes none; a reset .. writes none"
+-- what it does to the store: a push writes its word behind the last entry, and no other operation writes (`ring.push`, `ring.take`,
+-- `ring.clear`)
 unfoldable pub onStore : QueueOp → Area → List ℕ → List ℕ
 onStore keep a st = st
 onStore clear a st = st
@@ -105,9 +111,9 @@ settleRings l e =
       output = e .tables .output;
     }
 
--- "21 goes first, then 22"
+-- the tests before every call: 21 for the bank, then 22 for the length of the store (`answer.bank`)
 unfoldable pub guardRings : Controller → Decision → Decision
-guardRings l d = not (wellFormed (l .bank)) ⇒ 21 ∣ not (eqb (length (l .store)) (total (l .bank .state .caps))) ⇒ 22 ∣ d
+guardRings l d = not (wellFormed (l .bank)) ⇒ number.notWellFormed ∣ not (eqb (length (l .store)) (total (l .bank .state .caps))) ⇒ number.storeLength ∣ d
 
 abbrev pub rings : Engine Controller
 rings = record { view = viewRings; guard = guardRings; settle = settleRings; lend = λ o l. record { bank = l .bank; store = l .store; output = o } }

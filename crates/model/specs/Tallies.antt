@@ -1,4 +1,4 @@
--- Demand 3 is not empty: five lists of calls on the session's bank, each with the tally that it comes to.
+-- Demand 3 is not empty (D7 of docs/DECISIONS.md): five lists of calls on the session's bank, each with the tally that it comes to.
 use Prim.Native.Nat.{ℕ, zero, suc}
 use mathlib.Core.Path.{_≡_}
 use mathlib.Core.Bool.{Bool, true, false}
@@ -9,7 +9,7 @@ use Rattle.model.specs.declared.Call.the-variants.{Read, Write, Start, S
 use Rattle.model.specs.Engine.{lending}
 use Rattle.model.specs.Rings.{rings}
 use Rattle.model.specs.Demand.{Written, Run, Tally, tally}
-use Rattle.model.specs.Cases.{session, release}
+use Rattle.model.specs.Cases.{workedSession, release}
 
 -- a word that was taken
 abbrev pub took : ℕ → Bool → Bool → Written
@@ -82,8 +82,8 @@ unfoldable pub burstTally : Tally
 burstTally = let w = took 0x10 false false in record { words = record { written = w ∷ w ∷ []; roomSeen = false; credit = 0 }; past = ended 0x10 0 0 0 ∷ ended 0x10 0 0 1 ∷ []; now = none; receipts = 0 ∷ [] }
 
 pub record Counted : Type 0 where
-  pub worked : tally rings none session (lending [] sessionCalls) ≡ some sessionTally
-  pub assignment : tally rings none session (lending [] assignmentCalls) ≡ some assignmentTally
-  pub retry : tally rings none session (lending [] retryCalls) ≡ some retryTally
-  pub dropped : tally rings none session (lending [] droppedCalls) ≡ some droppedTally
-  pub burst : tally rings none session (lending [] burstCalls) ≡ some burstTally
+  pub worked : tally rings none workedSession (lending [] sessionCalls) ≡ some sessionTally
+  pub assignment : tally rings none workedSession (lending [] assignmentCalls) ≡ some assignmentTally
+  pub retry : tally rings none workedSession (lending [] retryCalls) ≡ some retryTally
+  pub dropped : tally rings none workedSession (lending [] droppedCalls) ≡ some droppedTally
+  pub burst : tally rings none workedSession (lending [] burstCalls) ≡ some burstTally

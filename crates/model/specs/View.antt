@@ -1,5 +1,5 @@
--- What a call decides by. It sees nothing else: not where the queues lie, and not their other words. (The tests 21 and 22 belong to
--- the engine.)
+-- What a call decides by. It sees nothing else: not where the queues lie, and not their words behind the second. The tests 21 and 22
+-- belong to the engine.
 use Prim.Native.Nat.{ℕ, _-_}
 use mathlib.Core.Bool.{Bool}
 use mathlib.Core.List.{List}
@@ -9,10 +9,11 @@ use Rattle.bank.specs.declared.Control.{Control}
 use Rattle.bank.specs.declared.Phase.{Phase}
 
 -- ── Five of a kind ────────────────────────────────────────────────────────────────────────────────────────────
+-- the five queues: commands, receipts, payload to send, payload received, interrupt entries (`queue.kind`)
 pub data Queue : Type 0 where
   Cmd Cmdr Sdo Sdi Ibi : Queue
 
--- one for each queue, in 01's order
+-- one for each queue, in the order of `store.order`
 pub record Five (A : Type 0) : Type 0 where
   pub cmd : A
   pub cmdr : A
@@ -31,13 +32,14 @@ of Sdi f = f .sdi
 of Ibi f = f .ibi
 
 -- ── The view ──────────────────────────────────────────────────────────────────────────────────────────────────
--- of a queue; a word that is not there is 0
+-- a queue: its capacity, its level and its first two words; a word that is not there is 0
 pub record QueueView : Type 0 where
   pub cap : ℕ
   pub level : ℕ
   pub first : ℕ
   pub second : ℕ
 
+-- the words that still fit: capacity less level (`room.read`)
 abbrev pub room : QueueView → ℕ
 room q = q .cap - q .level
 
@@ -47,11 +49,12 @@ empty q = eqb (q .level) 0
 abbrev pub full : QueueView → Bool
 full q = leb (q .cap) (q .level)
 
--- a take of one word leaves the queue empty
+-- taking one word leaves the queue empty
 abbrev pub last : QueueView → Bool
 last q = leb (q .level) 1
 
--- the flags of the 128 devices, the offload commands and the offload data words; and the output that is lent to the call
+-- the flags of the 128 devices (`device.flags`), the offload commands and data words (`offload.keeps`), and the output lent to the call
+-- (`burst.output`)
 pub record Tables : Type 0 where
   pub flags : List ℕ
   pub commands : List ℕ

@@ -1,7 +1,8 @@
-// The calls, as code and definitions name them. specs/ has each as a definition, and demand 3; proofs/ has their
-// laws. No function is here.
+// Every rule on calls, as definitions: what a call decides by, what it decides, and two engines that carry it out, on
+// rings in a lent store and on plain lists; their laws, and demand 3 of paper 00. The only code is the type of a call.
 
-// Two register accesses, seven bus events and the trigger of an offload burst.
+// A call: a register read or write (01, 'Register map'), one of the seven events (01, 'Bus events'), or the trigger of
+// an offload burst (`trigger.opens`).
 pub enum Call {
     // Offset.
     Read(u16),
@@ -18,6 +19,5 @@ pub enum Call {
     // Two words.
     Request(u32, u32),
     Take,
-    // Of an offload burst.
     Trigger,
 }

@@ -1,10 +1,10 @@
-// What a program does where its input or its output fails it: it counts the bytes that were written, and says on
-// standard error what happened.
+// What a program does where its input or its output fails (`program.failure`): it counts the answers that were written
+// whole, and says on standard error what happened. It knows bytes and file descriptors.
 ghost use mathlib.Core.Path.{_≡_};
 ghost use mathlib.Core.List.{_++_};
 ghost use Prim.Native.Nat.{_+_, _/_, _%_, _^_, _≤_};
 ghost use lib.ListN.{length, take};
-ghost use Rattle.notice.specs.Notice.{Told};
+ghost use Rattle.notice.specs.Notice.{Noticed};
 
 // Writes all bytes, or those before the first write that fails or takes none: how many were written.
 pub fn write_counted(fd: i32, bytes: &[u8]) -> usize
@@ -43,7 +43,7 @@ fn append(out: &mut [u8], at: usize, text: &[u8]) -> usize
 // A line of words and a number, and how many bytes of `out` it fills: a layer, no interface.
 pub fn line(words: &[u8], n: u64, out: &mut [u8]) -> usize
     requires { ⌜ length (now words) + 21 ≤ length (now out) ⌝ }
-    ensures { λ r. ⌜ Told (now (words .entry)) n (take r (now (out .exit))) × (r ≤ length (now (words .entry)) + 21) ⌝ }
+    ensures { λ r. ⌜ Noticed (now (words .entry)) n (take r (now (out .exit))) × (r ≤ length (now (words .entry)) + 21) ⌝ }
 {
     let mut digits = [0u8; 20];
     let k = io::decimal(n, &mut digits);

@@ -9,7 +9,7 @@ use lib.Count.{ones}
 use borrow.Author.Tests.{eqb-true, eqb-false}
 use Rattle.bank.specs.declared.Sizes.{Sizes}
 use Rattle.bank.specs.declared.SetUp.{SetUp}
-use Rattle.bank.specs.SetUp.{sizesOk, bankOf, refused, setUp}
+use Rattle.bank.specs.SetUp.{sizesOk, bankOf, refusedSetUp, setUp}
 use Rattle.bank.specs.Bits.{bit}
 use Rattle.bank.specs.Bursts.{bursting}
 use Rattle.registers.specs.Map.{registerAt}
@@ -152,7 +152,7 @@ set-up : (c m : Sizes) (id : ℕ) → (among (setUp c m id .answer .number) (0 �
 unfolding setUp
 set-up c m id = go (leb id 255 && sizesOk c m)
   where
-    go : (b : Bool) → let a = cond b (record { bank = bankOf c m true id; answer = record { value = 0; number = 0 } }) refused .answer in (among (a .number) (0 ∷ 23 ∷ []) ≡ true) × (a .value ≡ 0)
+    go : (b : Bool) → let a = cond b (record { bank = bankOf c m true id; answer = record { value = 0; number = 0 } }) refusedSetUp .answer in (among (a .number) (0 ∷ 23 ∷ []) ≡ true) × (a .value ≡ 0)
     go true = (refl, refl)
     go false = (refl, refl)
 

@@ -1,10 +1,11 @@
--- Demand 1, of paper 00: every call, with any input, ends with one number of its own. Each call's numbers, in the order in which they are
--- tested, and what is proved of them. docs/ANSWERS.md has the same table, and a test holds it to this one.
+-- Demand 1 of paper 00 (`answer.every`): each call's numbers, in the order in which they are tested, and what is proved of them.
+-- docs/ANSWERS.md has the same table, and a test holds it to this one.
 use Prim.Native.Nat.{ℕ}
 use mathlib.Core.Path.{_≡_}
 use mathlib.Core.Bool.{Bool, true, false, cond, _||_}
 use mathlib.Core.List.{List, [], _∷_, _++_}
 use lib.Dec.{eqb}
+use Rattle.number.specs.Names as number
 use Rattle.bank.specs.declared.Answer.{Answer}
 use Rattle.bank.specs.declared.Sizes.{Sizes}
 use Rattle.bank.specs.SetUp.{setUp}
@@ -16,19 +17,19 @@ use Rattle.model.specs.Engine.{step}
 use Rattle.model.specs.Rings.{Controller, viewRings, guardRings, rings}
 
 -- ── The table ─────────────────────────────────────────────────────────────────────────────────────────────────
--- Refusals, in 01's order ('Numbers that come back', 'Bus events'): bank and store first, then what is out of range, then the call's own
--- list. 02 §3 puts 6 behind 4 in the list of writes, and 13 behind 18 in that of every event.
+-- refusals: `answer.bank` first; for accesses `access.order`; for events `answer.range`, then 13 by `burst.output`, then the event's own
+-- tests
 abbrev pub numbers : Call → List ℕ
-numbers (Read o) = 21 ∷ 22 ∷ 4 ∷ 3 ∷ []
-numbers (Write o v) = 21 ∷ 22 ∷ 4 ∷ 6 ∷ 2 ∷ 5 ∷ 1 ∷ []
-numbers Start = 21 ∷ 22 ∷ 13 ∷ 5 ∷ 6 ∷ 8 ∷ 9 ∷ 15 ∷ []
-numbers Send = 21 ∷ 22 ∷ 13 ∷ 5 ∷ 7 ∷ 20 ∷ 10 ∷ 11 ∷ 12 ∷ []
-numbers (Receive byte) = 21 ∷ 22 ∷ 13 ∷ 5 ∷ 7 ∷ 20 ∷ 10 ∷ 11 ∷ 13 ∷ []
-numbers (Finish code) = 21 ∷ 22 ∷ 18 ∷ 13 ∷ 5 ∷ 7 ∷ 14 ∷ 13 ∷ []
-numbers (Interrupt a byte) = 21 ∷ 22 ∷ 18 ∷ 13 ∷ 5 ∷ 6 ∷ 16 ∷ 17 ∷ 13 ∷ []
-numbers (Request v w) = 21 ∷ 22 ∷ 13 ∷ 5 ∷ 7 ∷ 10 ∷ 13 ∷ []
-numbers Take = 21 ∷ 22 ∷ 13 ∷ 5 ∷ 7 ∷ 10 ∷ 12 ∷ []
-numbers Trigger = 21 ∷ 22 ∷ 13 ∷ 5 ∷ 6 ∷ 8 ∷ 28 ∷ 29 ∷ 13 ∷ []
+numbers (Read o) = number.notWellFormed ∷ number.storeLength ∷ number.noRegister ∷ number.empty ∷ []
+numbers (Write o v) = number.notWellFormed ∷ number.storeLength ∷ number.noRegister ∷ number.transferOpen ∷ number.droppedReadOnly ∷ number.heldInReset ∷ number.droppedFull ∷ []
+numbers Start = number.notWellFormed ∷ number.storeLength ∷ number.noRoom ∷ number.heldInReset ∷ number.transferOpen ∷ number.notInThisMode ∷ number.noCommand ∷ number.sdoNotEmpty ∷ []
+numbers Send = number.notWellFormed ∷ number.storeLength ∷ number.noRoom ∷ number.heldInReset ∷ number.noTransfer ∷ number.notAttached ∷ number.notThisKind ∷ number.lengthReached ∷ number.sdoEmpty ∷ []
+numbers (Receive byte) = number.notWellFormed ∷ number.storeLength ∷ number.noRoom ∷ number.heldInReset ∷ number.noTransfer ∷ number.notAttached ∷ number.notThisKind ∷ number.lengthReached ∷ number.noRoom ∷ []
+numbers (Finish code) = number.notWellFormed ∷ number.storeLength ∷ number.outOfRange ∷ number.noRoom ∷ number.heldInReset ∷ number.noTransfer ∷ number.endingNotAllowed ∷ number.noRoom ∷ []
+numbers (Interrupt a byte) = number.notWellFormed ∷ number.storeLength ∷ number.outOfRange ∷ number.noRoom ∷ number.heldInReset ∷ number.transferOpen ∷ number.notHeard ∷ number.notAcknowledged ∷ number.noRoom ∷ []
+numbers (Request v w) = number.notWellFormed ∷ number.storeLength ∷ number.noRoom ∷ number.heldInReset ∷ number.noTransfer ∷ number.notThisKind ∷ number.noRoom ∷ []
+numbers Take = number.notWellFormed ∷ number.storeLength ∷ number.noRoom ∷ number.heldInReset ∷ number.noTransfer ∷ number.notThisKind ∷ number.sdoEmpty ∷ []
+numbers Trigger = number.notWellFormed ∷ number.storeLength ∷ number.noRoom ∷ number.heldInReset ∷ number.transferOpen ∷ number.notInThisMode ∷ number.burstHasNoCommands ∷ number.notCarried ∷ number.noRoom ∷ []
 
 -- what a call that is not refused ends with
 abbrev pub ends : Call → List ℕ
@@ -40,7 +41,7 @@ ends (Receive byte) = 0 ∷ []
 ends (Finish code) = 0 ∷ []
 ends (Interrupt a byte) = 0 ∷ []
 ends (Request v w) = 0 ∷ []
-ends Take = 0 ∷ 19 ∷ []
+ends Take = 0 ∷ number.wrongParity ∷ []
 ends Trigger = 0 ∷ []
 
 abbrev pub among : ℕ → List ℕ → Bool
@@ -60,14 +61,14 @@ tested (b ⇒ n ∣ d) = n ∷ tested d
 
 -- ── The demand ────────────────────────────────────────────────────────────────────────────────────────────────
 pub record Answered (l : Controller) (c : Call) : Type 0 where
-  -- the tests are made in the table's order; the first that holds gives its number (`first`)
+  -- `answer.order`: the tests are made in the table's order, and the first that holds gives its number (`first`)
   pub ordered : inOrder (tested (guardRings l (decide (viewRings l) c))) (numbers c) ≡ true
   -- the call ends with a number of the table
   pub numbered : among (step rings l c .answer .number) (ends c ++ numbers c) ≡ true
-  -- a refusal changes nothing, and its value is 0
+  -- `answer.refusal`: a refusal changes nothing, and its value is 0
   pub unchanged : among (step rings l c .answer .number) (ends c) ≡ false → (step rings l c .next ≡ l) × (step rings l c .answer .value ≡ 0)
 
--- demand 1 of 00, of every call and of set-up
+-- of every call, and of set-up (`set-up.fresh`, `set-up.refused`)
 pub record Demand1 : Type 0 where
   pub calls : (l : Controller) (c : Call) → Answered l c
-  pub setUps : (caps marks : Sizes) (id : ℕ) → let a = setUp caps marks id .answer in (among (a .number) (0 ∷ 23 ∷ []) ≡ true) × (a .value ≡ 0)
+  pub setUps : (caps marks : Sizes) (id : ℕ) → let a = setUp caps marks id .answer in (among (a .number) (0 ∷ number.setUpOutOfRange ∷ []) ≡ true) × (a .value ≡ 0)

@@ -1,4 +1,4 @@
--- Each number of the table is given: an input for every one.
+-- Each number of the table is given for some input (`answer.every`): a try for every one.
 use Prim.Native.Nat.{ℕ}
 use mathlib.Core.Path.{_≡_}
 use mathlib.Core.List.{List, [], _∷_, _++_, map}
@@ -8,7 +8,7 @@ use Rattle.model.specs.declared.Call.{Call}
 use Rattle.model.specs.declared.Call.the-variants.{Read, Write, Start, Send, Receive, Finish, Interrupt, Request, Take, Trigger}
 use Rattle.model.specs.Engine.{Lent, stepLent, lending, final}
 use Rattle.model.specs.Rings.{Controller, rings}
-use Rattle.model.specs.Cases.{sizes, session, release, device8}
+use Rattle.model.specs.Cases.{sizes, workedSession, release, device8}
 use Rattle.numbers_model.specs.Numbers.{numbers, ends}
 
 -- a call, on what other calls left
@@ -25,17 +25,17 @@ upon l cs c = record { on = final rings l (lending (0 ∷ []) cs); call = record
 
 -- on the session's bank: as set up, held in reset; and released, with device 8 attached, after some calls
 abbrev fresh : Call → Try
-fresh c = upon session [] c
+fresh c = upon workedSession [] c
 
 abbrev after : List Call → Call → Try
-after cs c = upon session (release ∷ device8 ∷ cs) c
+after cs c = upon workedSession (release ∷ device8 ∷ cs) c
 
 -- the bank of a refused set-up, and a store of no words
 abbrev illFormed : Call → Try
 illFormed c = upon (record { bank = setUp (sizes 0 0 0 0 0) (sizes 0 0 0 0 0) 0 .bank; store = []; output = [] }) [] c
 
 abbrev wrongLength : Call → Try
-wrongLength c = upon (record { bank = session .bank; store = []; output = [] }) [] c
+wrongLength c = upon (record { bank = workedSession .bank; store = []; output = [] }) [] c
 
 -- ── What calls leave ──────────────────────────────────────────────────────────────────────────────────────────
 -- a command in CMD that is started: of device 8 a write of so many bytes, a read, and a write of device 9, which is not attached

@@ -1,2 +1,2 @@
-// The numbers that a call may end with. specs/ has each call's numbers in their order, and inputs that reach them; proofs/
-// has demand 1 of paper 00. No function is here.
+// Demand 1 of paper 00 (`answer.every`): as definitions the numbers of each call, in the order of its tests, and an
+// input that reaches each of them; and its proof. No code is here.

@@ -1,4 +1,4 @@
--- Events that an open burst bars: a transfer is open that is no address assignment.
+-- Events that an open burst refuses (`burst.events`): a transfer is open that is no address assignment.
 use Prim.Native.Nat.{ℕ}
 use mathlib.Core.Path.{_≡_, refl, sym, _∙_}
 use mathlib.Core.Bool.{Bool, true, false, cond, true≢false}
@@ -8,7 +8,7 @@ use Rattle.bank.specs.declared.Phase.{Phase}
 use Rattle.model.specs.View.{View}
 use Rattle.model.specs.Decision.{Effect, _⇒_∣_, unchanged, _withNumber_}
 use Rattle.model.specs.Calls.{start, interrupt, request, takeAddress}
-use Rattle.model.specs.Bursts.{short, trigger}
+use Rattle.model.specs.Bursts.{shortInBurst, trigger}
 use Rattle.model.proofs.Phases.{requested-assigns}
 use Rattle.effect.specs.Effects.{verdictBy, verdict}
 
@@ -24,25 +24,25 @@ no-request p false e h = refl
 
 module _ (s : View) (i : idle (s .phase) ≡ false) where
   abbrev told : ℕ → Effect
-  told n = unchanged s withNumber cond (short s) 13 (cond (s .control .held) 5 n)
+  told n = unchanged s withNumber cond (shortInBurst s) 13 (cond (s .control .held) 5 n)
 
-  pub bars-start : told 6 ≡ verdict (λ v. short v ⇒ 13 ∣ start v) s
+  pub bars-start : told 6 ≡ verdict (λ v. shortInBurst v ⇒ 13 ∣ start v) s
   unfolding verdict start
-  bars-start = rw i (told-by s (short s) (s .control .held) 6 _)
+  bars-start = rw i (told-by s (shortInBurst s) (s .control .held) 6 _)
 
-  pub bars-interrupt : (a byte : ℕ) → told 6 ≡ verdict (λ v. short v ⇒ 13 ∣ interrupt v a byte) s
+  pub bars-interrupt : (a byte : ℕ) → told 6 ≡ verdict (λ v. shortInBurst v ⇒ 13 ∣ interrupt v a byte) s
   unfolding verdict interrupt
-  bars-interrupt a byte = rw i (told-by s (short s) (s .control .held) 6 _)
+  bars-interrupt a byte = rw i (told-by s (shortInBurst s) (s .control .held) 6 _)
 
-  pub bars-trigger : told 6 ≡ verdict (λ v. short v ⇒ 13 ∣ trigger v) s
+  pub bars-trigger : told 6 ≡ verdict (λ v. shortInBurst v ⇒ 13 ∣ trigger v) s
   unfolding verdict trigger
-  bars-trigger = rw i (told-by s (short s) (s .control .held) 6 _)
+  bars-trigger = rw i (told-by s (shortInBurst s) (s .control .held) 6 _)
 
   module _ (g : assigning (s .phase) ≡ false) where
-    pub bars-request : (v w : ℕ) → told 10 ≡ verdict (λ x. short x ⇒ 13 ∣ request x v w) s
+    pub bars-request : (v w : ℕ) → told 10 ≡ verdict (λ x. shortInBurst x ⇒ 13 ∣ request x v w) s
     unfolding verdict request
-    bars-request v w = rw (i, g) (told-by s (short s) (s .control .held) 10 _)
+    bars-request v w = rw (i, g) (told-by s (shortInBurst s) (s .control .held) 10 _)
 
-    pub bars-take : told 10 ≡ verdict (λ v. short v ⇒ 13 ∣ takeAddress v) s
+    pub bars-take : told 10 ≡ verdict (λ v. shortInBurst v ⇒ 13 ∣ takeAddress v) s
     unfolding verdict takeAddress
-    bars-take = rw (i, no-request (s .phase) (requested (s .phase)) refl g) (told-by s (short s) (s .control .held) 10 _)
+    bars-take = rw (i, no-request (s .phase) (requested (s .phase)) refl g) (told-by s (shortInBurst s) (s .control .held) 10 _)

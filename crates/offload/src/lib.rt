@@ -1,4 +1,5 @@
-// Events in an open burst, as decisions: the three that run it, and those that it bars.
+// Every event in an open burst, as a decision: the three that run it, of `burst`, and those that it refuses
+// (`burst.events`).
 ghost use mathlib.Core.Path.{_≡_};
 ghost use mathlib.Core.Bool.{true, false, cond};
 ghost use mathlib.Core.List.{List};
@@ -16,18 +17,22 @@ use bank::State;
 use effect::Effect;
 use model::Call;
 
-// An event that an open burst bars: 13 where the output is shorter than the reads, else 5 in reset, else its own number.
-// Small, so that every caller has it inlined: an effect that one callee writes through a pointer stays in memory.
+// An event that an open burst refuses: with 13 where the output is too short (`burst.output`), else 5 in reset, else
+// `n`. Small, so that it is inlined everywhere: an effect that a callee writes through a pointer stays in memory.
 pub fn bar(st: State, lacks: bool, n: u32) -> Effect
     ensures { λ e. ⌜ ((t : Tables) (f : Fronts) → (let v = seen st t f in effectOf e t ≡ (unchanged v withNumber cond lacks 13 (cond (st .control .held) 5 n)))) ⌝ }
 {
     effect::refuse(
         st,
-        bank::select(lacks, 13, bank::select(st.control.held, 5, n)),
+        bank::select(
+            lacks,
+            number::NO_ROOM,
+            bank::select(st.control.held, number::HELD_IN_RESET, n),
+        ),
     )
 }
 
-// Any event that passes 18. An access is not decided here: what is given for one is not promised.
+// Any event that passes 18. What is given for an access is not promised: none comes here.
 pub fn event(
     st: State,
     flags: &[u8; 128],
@@ -39,14 +44,14 @@ pub fn event(
     requires { ⌜ (bursting (st .control) ≡ true) × (openOk (st .control) (st .regs) (st .phase) (now commands) ≡ true) ⌝ }
     ensures { λ e. ⌜ ((o : List ℕ) (f : Fronts) → length o ≡ len → isAccess call ≡ false → misfit call ≡ false → (let t = tables (now (flags .entry)) (now (commands .entry)) (now (payloads .entry)) o in effectOf e t ≡ verdict (λ v. decide v call) (seen st t f))) ⌝ }
 {
-    let lacks = trigger::is_lacking(st.regs, commands, len);
+    let lacks = trigger::is_output_short(st.regs, commands, len);
     match call {
-        Call::Read(_) => effect::refuse(st, 13),
-        Call::Write(_, _) => effect::refuse(st, 13),
+        Call::Read(_) => effect::refuse(st, number::NO_ROOM),
+        Call::Write(_, _) => effect::refuse(st, number::NO_ROOM),
         Call::Start => bar(st, lacks, 6),
-        Call::Send => burst::send(st, commands, payloads, len),
-        Call::Receive(byte) => burst::receive(st, commands, len, byte),
-        Call::Finish(code) => burst::finish(st, flags, commands, len, code),
+        Call::Send => burst_bytes::send(st, commands, payloads, len),
+        Call::Receive(byte) => burst_bytes::receive(st, commands, len, byte),
+        Call::Finish(code) => burst_finish::finish(st, flags, commands, len, code),
         Call::Interrupt(_, _) => bar(st, lacks, 6),
         Call::Request(_, _) => bar(st, lacks, 10),
         Call::Take => bar(st, lacks, 10),

@@ -1,4 +1,4 @@
--- An event that is no burst's: no burst is open.
+-- Where a call is an event, and none in an open burst, no burst is open.
 use mathlib.Core.Path.{_≡_, refl, ap, sym, _∙_}
 use mathlib.Core.Bool.{Bool, true, false, not, _&&_, true≢false}
 use Rattle.model.specs.declared.Call.{Call}

@@ -1,4 +1,5 @@
-// Any call on the rings of a bank but an event in an open burst: the words that its decision looks at, and the decision.
+// Any call but an event in an open burst, decided on the rings of a bank: it looks up the words and flags that the
+// decision asks for, and calls the decision. It knows every decision outside a burst, and no rule of its own.
 ghost use mathlib.Core.Path.{_≡_};
 ghost use mathlib.Core.Bool.{false, not, _&&_};
 ghost use mathlib.Core.List.{List};
@@ -37,15 +38,15 @@ fn read_at(
     read::read(r, st, w, flags, commands, payloads)
 }
 
-// The first command of CMD starts: `w` and `x` are the first words of CMD.
+// A start: `w` and `x` are the first words of CMD.
 fn start(st: State, w: u32, x: u32, flags: &[u8; 128]) -> Effect
     ensures { λ e. ⌜ ((c p o : List ℕ) (f : Fronts) → w ≡ f .cmd .first → x ≡ f .cmd .second → (let t = tables (now (flags .entry)) c p o in effectOf e t ≡ verdict start (seen st t f))) ⌝ }
 {
-    let at = (w / 2 % 128) as usize;
+    let at = (w / 2 % 0x80) as usize;
     start::start(st, w, x, flags[at])
 }
 
-// A device asks for an interrupt.
+// An interrupt request.
 fn interrupt(st: State, flags: &[u8; 128], address: u8, byte: u8) -> Effect
     requires { ⌜ address ≤ 127 ⌝ }
     ensures { λ e. ⌜ ((c p o : List ℕ) (f : Fronts) → (let t = tables (now (flags .entry)) c p o in effectOf e t ≡ verdict (λ v. interrupt v address byte) (seen st t f))) ⌝ }

@@ -1,13 +1,13 @@
-// What bytes sent and received share, outside a burst and inside: their tests, their count, and their place in a word.
+// What sends and receives share, in a burst and outside: the tests 5, 7, 20, 10 and 11 (`send.tests`, `receive.tests`),
+// the count of bytes moved, and the place of a byte in its word (`payload.order`).
 ghost use mathlib.Core.Path.{_≡_};
 ghost use Prim.Native.Nat.{_+_, _-_, _*_, _%_, _^_, _<_, _≤_};
 ghost use Rattle.model.specs.Calls.{advanced};
 ghost use Rattle.payload_bytes.specs.Bytes.{byteNumber};
 use bank::State;
 use bank::Transfer;
-use bank::phases;
 
-// One byte more has moved, and the part word is `w`.
+// The transfer with one byte more moved, and `w` as its part word.
 pub fn advance(t: Transfer, w: u32) -> Transfer
     requires { ⌜ t .moved .0 < t .length .0 ⌝ }
     ensures { λ r. ⌜ r ≡ advanced t w ⌝ }
@@ -19,21 +19,21 @@ pub fn advance(t: Transfer, w: u32) -> Transfer
     next
 }
 
-// The number of a byte that a transfer in the phase `way` moves: 5, 7, 20, 10, 11, then `last`.
-pub fn byte_number(st: State, way: u32, last: u32) -> u32
-    ensures { λ n. ⌜ n ≡ byteNumber (st .control) (st .phase) way last ⌝ }
+// The number of a byte that moves the way of the open transfer where `apt` holds: 5, 7, 20, 10, 11, then `last`.
+pub fn byte_number(st: State, apt: bool, last: u32) -> u32
+    ensures { λ n. ⌜ n ≡ byteNumber (st .control) (st .phase) apt last ⌝ }
 {
     let p = st.phase;
     let t = phases::transfer_of(p);
-    let at = phases::stage_of(p);
+    let idle = phases::is_idle(p);
     let absent = phases::is_unattached(p);
-    let n = bank::select(t.length.0 <= t.moved.0, 11, last);
-    let n = bank::select(!(at == way), 10, n);
-    let n = bank::select(absent, 20, n);
-    effect::while_open(st.control.held, at, n)
+    let n = bank::select(t.length.0 <= t.moved.0, number::LENGTH_REACHED, last);
+    let n = bank::select(!apt, number::NOT_THIS_KIND, n);
+    let n = bank::select(absent, number::NOT_ATTACHED, n);
+    effect::while_open(st.control.held, idle, n)
 }
 
-// The weight of a byte in its word: the first has the highest.
+// The weight of a byte in its word, the first having the highest (`payload.order`).
 pub fn weight(moved: u32) -> u32
     ensures { λ r. ⌜ (r ≡ 2 ^ (24 - 8 * (moved % 4))) × (r ≤ 0x1000000) × (0 < r) ⌝ }
 {

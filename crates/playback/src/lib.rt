@@ -1,12 +1,12 @@
-// Replay of a section of a trace, 02 §1: by value, and on a bank that is changed where it lies. A replay lends every call
-// an empty output: no record names the trigger.
+// Replay of a section of a trace file (`replay.calls`, `replay.tells`): by value, and on a bank that is changed where
+// it lies (`call.in-place`). Every call is lent an empty output (`burst.replay`).
 ghost use mathlib.Core.Path.{_≡_};
 ghost use mathlib.Core.List.{[]};
 ghost use Rattle.answer.specs.Given.{controller};
 ghost use Rattle.playback_model.specs.Replay.{replayOf};
 ghost use Rattle.replayed.specs.Given.{replayedOut, replayedPlace};
 use bank::Bank;
-use playback_model::Told;
+use playback_model::Report;
 use replayed::Replayed;
 
 // Replay of section i, at most `limit` of its records.
@@ -29,7 +29,7 @@ pub fn replay_in_place(
     file: &[u8],
     i: u32,
     limit: usize,
-) -> Told
+) -> Report
     ensures { λ r. ⌜ replayedPlace (now (bank .exit)) r (now (store .exit)) ≡ replayOf (now (file .entry)) i limit (controller (now (bank .entry)) (now (store .entry)) []) ⌝ }
 {
     let out = replay(*bank, store, file, i, limit);

@@ -11,11 +11,11 @@ use Rattle.model.specs.Rings.{Controller}
 use Rattle.letters.specs.declared.Parsed.{Parsed}
 use Rattle.trace_model.specs.Format.{lookNumber, section}
 use Rattle.trace_model.proofs.Sections.{refused}
-use Rattle.record_model.specs.Record.{within}
+use Rattle.record_model.specs.Record.{wholeRecords}
 use Rattle.record_model.specs.Writer.{namedFrom}
 use Rattle.record_model.specs.Done.{callsBefore, anyWrong, EachIsMade}
 use Rattle.record_model.proofs.Made.{each-is-made}
-use Rattle.playback_model.specs.Replay.{Replay, begun, did, wrong, played, replayOf}
+use Rattle.playback_model.specs.Replay.{Replay, replayBegun, did, wrong, played, replayOf}
 use Rattle.playback_model.specs.Laws.{lentOn, made}
 use Rattle.playback_model.specs.Done.{wanted, doneIn, numberIn, EveryReplay}
 use Rattle.playback_model.proofs.Laws.{refuses, plays}
@@ -29,11 +29,11 @@ stopped : (w : Bool) (ps : List Parsed) (l : Controller) → cond w (wrong (made
 stopped true ps l = refl
 stopped false ps l = refl
 
-every-section : (limit : ℕ) (bytes : List ℕ) (l : Controller) → played limit bytes l ≡ madeBy (namedFrom (within limit bytes) bytes 0) l
+every-section : (limit : ℕ) (bytes : List ℕ) (l : Controller) → played limit bytes l ≡ madeBy (namedFrom (wholeRecords limit bytes) bytes 0) l
 unfolding EachIsMade
 every-section limit bytes l =
-    let ps = namedFrom (within limit bytes) bytes 0 in
-    each-is-made Replay did wrong (within limit bytes) bytes 0 (begun 0 l)
+    let ps = namedFrom (wholeRecords limit bytes) bytes 0 in
+    each-is-made Replay did wrong (wholeRecords limit bytes) bytes 0 (replayBegun 0 l)
     ∙ ap (λ (r : Replay). cond (anyWrong ps) (wrong r) r) (one-after-another (callsBefore ps) l)
     ∙ stopped (anyWrong ps) ps l
 
@@ -45,7 +45,7 @@ refused-by : (n m : ℕ) → (n ≡ 0 → ⊥) → n ≡ cond (eqb n 0) m n
 refused-by n m h = rw (ne-eqb n 0 h)
 
 -- an empty section has no records
-none-made : (limit n : ℕ) (l : Controller) → begun n l ≡ made n (callsBefore (namedFrom (within limit []) [] 0)) l
+none-made : (limit n : ℕ) (l : Controller) → replayBegun n l ≡ made n (callsBefore (namedFrom (wholeRecords limit []) [] 0)) l
 unfolding namedFrom callsBefore lentOn answers final
 none-made limit n l = rw (le-ltb limit 0 (let h : 0 ≤ limit = omega arith in h))
 
@@ -65,5 +65,5 @@ every-replay file i limit l = go (lookNumber file i) refl
         let h : n ≡ 0 → ⊥ = λ z. omega (arith, e, z) in
         sym (refuses file i limit l n refl h)
         ∙ none-made limit n l
-        ∙ ap (λ (bytes : List ℕ). made n (callsBefore (namedFrom (within limit bytes) bytes 0)) l) (refused file i n refl h .0)
+        ∙ ap (λ (bytes : List ℕ). made n (callsBefore (namedFrom (wholeRecords limit bytes) bytes 0)) l) (refused file i n refl h .0)
         ∙ ap (λ (x : ℕ). made x (doneIn file i limit) l) (refused-by n m h)

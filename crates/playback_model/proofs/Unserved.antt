@@ -1,4 +1,4 @@
--- An empty output does not serve an open burst that has reads.
+-- `burst.replay`: an empty output is too short for an open burst that has reads.
 use Prim.Native.Nat.{ℕ, _<_}
 use mathlib.Core.Path.{_≡_}
 use mathlib.Core.Bool.{true, false≢true}
@@ -11,14 +11,14 @@ use Rattle.model.specs.declared.Call.{Call}
 use Rattle.model.specs.declared.Call.the-variants.{Read, Write, Start, Send, Receive, Finish, Interrupt, Request, Take, Trigger}
 use Rattle.model.specs.View.{View}
 use Rattle.model.specs.Decision.{first}
-use Rattle.model.specs.Bursts.{short, decide}
+use Rattle.model.specs.Bursts.{shortInBurst, decide}
 use Rattle.model.specs.Engine.{step}
 use Rattle.model.specs.Rings.{guardRings, viewRings}
 use Rattle.answer.specs.Given.{controller}
 use Rattle.playback_model.specs.Laws.{inRange, BurstUnserved}
 
 -- 13 is the first test of each event, or comes after 18
-first-13 : (s : View) (k : Call) → short s ≡ true → inRange k ≡ true → first (decide s k) ≡ some 13
+first-13 : (s : View) (k : Call) → shortInBurst s ≡ true → inRange k ≡ true → first (decide s k) ≡ some 13
 first-13 s (Read o) e h = absurd (false≢true h)
 first-13 s (Write o v) e h = absurd (false≢true h)
 first-13 s Start e h = rw e
@@ -30,8 +30,8 @@ first-13 s (Request v w) e h = rw e
 first-13 s Take e h = rw e
 first-13 s Trigger e h = rw e
 
-is-short : (b : Bank) (store : List ℕ) → bursting (b .state .control) ≡ true → 0 < readsIn (span (b .state .regs)) (b .commands) → short (viewRings (controller b store [])) ≡ true
-unfolding short
+is-short : (b : Bank) (store : List ℕ) → bursting (b .state .control) ≡ true → 0 < readsIn (span (b .state .regs)) (b .commands) → shortInBurst (viewRings (controller b store [])) ≡ true
+unfolding shortInBurst
 is-short b store e h = rw (e, lt-ltb 0 (readsIn (span (b .state .regs)) (b .commands)) h)
 
 pub burst-unserved : BurstUnserved

@@ -1,10 +1,11 @@
--- What a replay promises beside its definition: it makes the calls, one by one.
+-- Laws of a replay, as statements: it makes the calls of its records one by one. proofs/ has a proof of each.
 use Prim.Native.Nat.{ℕ, _<_, _≤_}
 use mathlib.Core.Path.{_≡_}
 use mathlib.Core.Bool.{Bool, true, false}
 use mathlib.Core.List.{List, [], _∷_, map, foldl}
 use lib.Dec.{leb}
 use lib.ListN.{length, take}
+use Rattle.number.specs.Names as number
 use Rattle.bank.specs.declared.Answer.{Answer}
 use Rattle.bank.specs.declared.Bank.{Bank}
 use Rattle.bank.specs.SetUp.{total}
@@ -17,7 +18,7 @@ use Rattle.model.specs.Rings.{Controller, rings}
 use Rattle.answer.specs.Given.{controller}
 use Rattle.letters.specs.declared.Parsed.the-variants.{Named, Skipped}
 use Rattle.trace_model.specs.Format.{lookNumber}
-use Rattle.record_model.specs.Record.{recordAt, within}
+use Rattle.record_model.specs.Record.{recordAt, wholeRecords}
 use Rattle.record_model.specs.Writer.{traceOf, namedFrom, sectionOf, everyWritable}
 use Rattle.playback_model.specs.Replay.{Replay, played, replayOf}
 
@@ -26,40 +27,40 @@ unfoldable pub lentOn : List Call → Controller → List Lent
 lentOn [] l = []
 lentOn (k ∷ ks) l = record { output = l .output; call = k } ∷ lentOn ks (step rings l k .next)
 
--- 02 §3: "replay lends an empty one", and an empty one stays empty
+-- `burst.replay`: a replay lends an empty output, and an empty output stays empty
 unfoldable pub EmptyIsLent : Type 0
 EmptyIsLent = (ks : List Call) (l : Controller) → l .output ≡ [] → lentOn ks l ≡ lending [] ks
 
--- the last of some answers; 0, 0 where there is none
+-- the last of some answers; 0 and 0 where there is none
 abbrev pub lastOf : List Answer → Answer
 lastOf answers = foldl (λ _ a. a) (record { value = 0; number = 0 }) answers
 
--- a replay that did these calls one by one, with its number: how many they are, the last one's answer, and what they leave
+-- a replay that made these calls one by one: how many they are, the answer of the last, and what they left
 abbrev pub made : ℕ → List Call → Controller → Replay
 made number ks l =
     record { told = record { number = number; count = length ks; answer = lastOf (answers rings l (lentOn ks l)) }; left = final rings l (lentOn ks l) }
 
--- "leaves what the same calls one by one leave, stops after a stated number of records": where the first records name calls, and no more are wanted
+-- `replay.calls`: where the first records name the calls ks, and the limit asks for no more, a replay makes these
 unfoldable pub OneByOne : Type 0
-OneByOne = (ks : List Call) (bytes : List ℕ) (limit : ℕ) (l : Controller) → namedFrom (length ks) bytes 0 ≡ map Named ks → within limit bytes ≤ length ks
-    → played limit bytes l ≡ made 0 (take (within limit bytes) ks) l
+OneByOne = (ks : List Call) (bytes : List ℕ) (limit : ℕ) (l : Controller) → namedFrom (length ks) bytes 0 ≡ map Named ks → wholeRecords limit bytes ≤ length ks
+    → played limit bytes l ≡ made 0 (take (wholeRecords limit bytes) ks) l
 
--- "27 record wrong .., where replay stops with the earlier records done": where the record behind them is wrong, and wanted
+-- `replay.calls`: where the record behind these is wrong, and the limit asks for it, the number is 27
 unfoldable pub StopsAtWrong : Type 0
-StopsAtWrong = (ks : List Call) (bytes : List ℕ) (limit : ℕ) (l : Controller) → namedFrom (length ks) bytes 0 ≡ map Named ks → recordAt bytes (length ks) ≡ Skipped → length ks < within limit bytes
-    → played limit bytes l ≡ made 27 ks l
+StopsAtWrong = (ks : List Call) (bytes : List ℕ) (limit : ℕ) (l : Controller) → namedFrom (length ks) bytes 0 ≡ map Named ks → recordAt bytes (length ks) ≡ Skipped → length ks < wholeRecords limit bytes
+    → played limit bytes l ≡ made number.wrongRecord ks l
 
--- a replay that is refused tells that number, did no record, and leaves all as it was
+-- `replay.tells`, `answer.refusal`: at 24, 25 and 26 no record is done, and all stays as it was
 unfoldable pub RefusedLeavesAll : Type 0
 RefusedLeavesAll = (file : List ℕ) (i limit : ℕ) (l : Controller) → (lookNumber file i ≡ 0 → ⊥)
     → replayOf file i limit l ≡ record { told = record { number = lookNumber file i; count = 0; answer = record { value = 0; number = 0 } }; left = l }
 
--- the replay of a section of a written trace makes the calls that were written
+-- `trace.written`: the replay of a section of a written trace makes the calls that were written
 unfoldable pub WrittenIsMade : Type 0
 WrittenIsMade = (ss : List (List Call)) (i limit : ℕ) (l : Controller) → 1 ≤ length ss → length ss ≤ 64 → length (traceOf ss) ≤ 0x1000000 → everyWritable ss ≡ true → i < length ss
     → replayOf (traceOf ss) i limit l ≡ made 0 (take limit (sectionOf ss i)) l
 
--- an event that is no 18
+-- an event that passes 18
 abbrev pub inRange : Call → Bool
 inRange (Read o) = false
 inRange (Write o v) = false
@@ -72,7 +73,7 @@ inRange (Request v w) = true
 inRange Take = true
 inRange Trigger = true
 
--- 02 §3: "replay lends an empty one". So on a bank with an open burst that has reads, the events of a trace are answered 13, and change nothing
+-- `burst.replay`: on a bank whose open burst has reads, the events of a trace are answered 13, and change nothing
 unfoldable pub BurstUnserved : Type 0
 BurstUnserved = (b : Bank) (store : List ℕ) (k : Call) → wellFormed b ≡ true → length store ≡ total (b .state .caps) → bursting (b .state .control) ≡ true → 0 < readsIn (span (b .state .regs)) (b .commands) → inRange k ≡ true
-    → (let l = controller b store [] in step rings l k ≡ record { answer = record { value = 0; number = 13 }; next = l })
+    → (let l = controller b store [] in step rings l k ≡ record { answer = record { value = 0; number = number.noRoom }; next = l })

@@ -1,8 +1,9 @@
-// What a replay of a section tells, 02 §1. specs/ has a replay as a definition; proofs/ has its laws. No function is here.
+// Replay of a section of a trace, as a definition (`replay.calls`, `replay.tells`), its laws, and demand 3 of it
+// (`demand.replays`). The only code is the type of what a replay tells.
 use bank::Answer;
 
-// What a replay tells: its number, how many records it did, and the answer of the last; 0, 0 where it did none.
-pub struct Told {
+// What a replay tells (`replay.tells`): its number, how many records it did, and the answer of the last of these.
+pub struct Report {
     pub number: u32,
     pub count: usize,
     pub answer: Answer,

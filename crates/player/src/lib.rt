@@ -1,14 +1,14 @@
-// The records of a section, played one after another. The two tests of bank and store are made once, before the records:
-// no call changes what they say.
+// The records of a section, played one after another (`replay.calls`). It knows records and calls, and no file. The two
+// tests of bank and store are made once, before the records: no call changes what they say (`formed.kept`).
 ghost use mathlib.Core.Path.{_≡_};
 ghost use Prim.Native.Nat.{_*_, _≤_};
 ghost use lib.ListN.{length};
 ghost use Rattle.model.specs.View.{tables};
 ghost use Rattle.answer.specs.Given.{bankWith, controller};
 ghost use Rattle.faults.specs.Faults.{faultNumber};
-ghost use Rattle.record_model.specs.Record.{each};
-ghost use Rattle.playback_model.specs.Replay.{begun, did, wrong, played};
-ghost use Rattle.replayed.specs.Given.{reached, replayedWith};
+ghost use Rattle.record_model.specs.Record.{eachRecord};
+ghost use Rattle.playback_model.specs.Replay.{replayBegun, did, wrong, played};
+ghost use Rattle.replayed.specs.Given.{replayReached, replayedWith};
 use bank::Answer;
 use bank::Bank;
 use bank::Heads;
@@ -31,7 +31,7 @@ fn replay_parts(
     n: usize,
 ) -> Reached
     requires { ⌜ (fault ≡ faultNumber (bankWith st heads (tables (now flags) (now commands) (now payloads) (now output))) (length (now store))) × (12 * n ≤ length (now records)) ⌝ }
-    ensures { λ r. ⌜ reached r (tables (now (flags .exit)) (now (commands .exit)) (now (payloads .exit)) (now (output .exit))) (now (store .exit)) ≡ each did wrong n (now (records .entry)) 0 (begun 0 (controller (bankWith st heads (tables (now (flags .entry)) (now (commands .entry)) (now (payloads .entry)) (now (output .entry)))) (now (store .entry)) (now (output .entry)))) ⌝ }
+    ensures { λ r. ⌜ replayReached r (tables (now (flags .exit)) (now (commands .exit)) (now (payloads .exit)) (now (output .exit))) (now (store .exit)) ≡ eachRecord did wrong n (now (records .entry)) 0 (replayBegun 0 (controller (bankWith st heads (tables (now (flags .entry)) (now (commands .entry)) (now (payloads .entry)) (now (output .entry)))) (now (store .entry)) (now (output .entry)))) ⌝ }
 {
     let mut s = st;
     let mut h = heads;

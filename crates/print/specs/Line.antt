@@ -1,4 +1,4 @@
--- An answer as text: 01, section 'A session'.
+-- An answer as text: 01, 'A session'.
 use Prim.Native.Nat.{ℕ, zero, suc, _+_, _/_, _%_, _^_}
 use mathlib.Core.Bool.{cond}
 use mathlib.Core.List.{List, [], _∷_, _++_}
@@ -13,6 +13,7 @@ abbrev pub digits : ℕ → ℕ → ℕ → List ℕ
 digits base zero n = []
 digits base (suc k) n = glyph (n / base ^ k % base) ∷ digits base k n
 
--- "the value in eight lower-case hex digits, a space and the number in two decimal digits", and a newline. Every number of 01 has two digits at most; of any other the last two are here.
+-- the line of an answer (`session.answers`): value, blank, number, newline. Every number of the model has two digits at most; of a greater
+-- one the last two are here.
 abbrev pub lineOf : ℕ → ℕ → List ℕ
 lineOf value number = digits 16 8 value ++ (0x20 ∷ digits 10 2 number ++ (0x0a ∷ []))

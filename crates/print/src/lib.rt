@@ -1,4 +1,4 @@
-// An answer as text, one line of twelve bytes.
+// An answer as text (`session.answers`): one line of twelve bytes. It knows no call.
 ghost use mathlib.Core.Path.{_≡_};
 ghost use mathlib.Core.List.{_++_};
 ghost use Prim.Native.Nat.{_+_, _/_, _%_, _<_, _≤_};
@@ -6,7 +6,7 @@ ghost use lib.ListN.{length, take};
 ghost use Rattle.print.specs.Line.{glyph, lineOf};
 use bank::Answer;
 
-// The digit of n that counts the units, in ASCII.
+// The digit of `n` that has the weight `unit`, in ASCII.
 fn digit(n: u32, base: u32, unit: u32) -> u8
     requires { ⌜ (0 < base) × (base ≤ 16) × (0 < unit) ⌝ }
     ensures { λ r. ⌜ r ≡ glyph (n / unit % base) ⌝ }
@@ -18,7 +18,7 @@ fn digit(n: u32, base: u32, unit: u32) -> u8
     b'a' - 10 + d as u8
 }
 
-// The value in eight hex digits, a space, the number in two decimal digits, and a newline.
+// The line of an answer (`session.answers`).
 pub fn line(a: Answer) -> [u8; 12]
     ensures { λ r. ⌜ r ≡ lineOf (a .value) (a .number) ⌝ }
 {

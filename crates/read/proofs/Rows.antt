@@ -1,4 +1,4 @@
--- A read that changes nothing.
+-- A read that changes nothing (`map.reads`).
 use Prim.Native.Nat.{ℕ}
 use mathlib.Core.Path.{_≡_}
 use Rattle.registers.specs.declared.Register.{Register}

@@ -1,4 +1,5 @@
-// Register reads, as decisions. `word` is the first of the queue that the register takes from: see `takenBy`.
+// Register reads, as decisions: which register goes to which row of `read_rows`. `word` is the first of the queue that
+// the register takes from: see `takenBy`.
 ghost use mathlib.Core.Path.{_≡_};
 ghost use mathlib.Core.List.{List};
 ghost use Prim.Native.Nat.{ℕ};
@@ -7,12 +8,11 @@ ghost use Rattle.model.specs.Registers.{row, read};
 ghost use Rattle.effect.specs.Effects.{effectOf, verdict};
 ghost use Rattle.effect.specs.Seen.{Fronts, seen, takenBy};
 use bank::State;
-use bank::phases;
 use effect::Effect;
 use read_rows::show;
 use registers::Register;
 
-// A read of a register. Those that are only written give 0.
+// A read of a register: 4 where there is none (`map.offsets`); one that is only written gives 0 (`map.write-only`).
 pub fn read(
     r: Register,
     st: State,
@@ -31,7 +31,7 @@ pub fn read(
         Register::Version => show(st, 0x00000100),
         Register::Id => show(st, read_rows::wide(g.id)),
         Register::Scratch => show(st, g.scratch),
-        Register::Enable => show(st, read_rows::weigh(st.control.held, 1)),
+        Register::Enable => show(st, read_rows::word_if(st.control.held, 1)),
         Register::IrqMask => show(st, read_rows::wide(g.mask)),
         Register::IrqPending => show(st, read_rows::sources_in(st, g.mask)),
         Register::IrqSource => show(st, read_rows::sources_in(st, 0xff)),
@@ -46,10 +46,7 @@ pub fn read(
         Register::SdiFifo => read_rows::read_sdi(st, word),
         Register::IbiFifo => read_rows::read_ibi(st, word),
         Register::FifoStatus => show(st, read_rows::status_word(l.cmdr.0, l.ibi.0, l.sdi.0)),
-        Register::Ops => show(
-            st,
-            read_rows::ops_word(phases::stage_of(p) == phases::IDLE, g.ops),
-        ),
+        Register::Ops => show(st, read_rows::ops_word(phases::is_idle(p), g.ops)),
         Register::IbiConfig => show(st, 0),
         Register::DevChar => show(
             st,
@@ -57,6 +54,6 @@ pub fn read(
         ),
         Register::OffloadCmd(i) => show(st, read_rows::offload_word(commands, i)),
         Register::OffloadSdo(i) => show(st, read_rows::offload_word(payloads, i)),
-        Register::Unmapped => effect::refuse(st, 4),
+        Register::Unmapped => effect::refuse(st, number::NO_REGISTER),
     }
 }

@@ -1,12 +1,12 @@
-// Register reads, row by row: what a register shows, and the three that take a word. `word` is the first of the queue that
-// the register takes from.
+// Register reads, row by row: what a register shows, and the three that take a word. Each knows its own register.
+// `word` is the first of the queue that the register takes from.
 ghost use mathlib.Core.Path.{_≡_};
 ghost use mathlib.Core.Bool.{_&&_};
 ghost use Prim.Native.Nat.{_+_, _*_, _^_, _<_, _≤_};
 ghost use lib.Dec.{eqb};
 ghost use lib.ListN.{getD};
 ghost use Rattle.registers.specs.declared.Register.the-variants.{CmdrFifo, SdiFifo, IbiFifo};
-ghost use Rattle.bank.specs.Bits.{bit, weigh};
+ghost use Rattle.bank.specs.Bits.{bit, wordIf};
 ghost use Rattle.model.specs.View.{Tables};
 ghost use Rattle.model.specs.Decision.{unchanged, _withValue_};
 ghost use Rattle.model.specs.Registers.{sources, row, read};
@@ -17,27 +17,28 @@ use effect::Effect;
 use effect::Op;
 
 // A weight where a test holds, else 0.
-pub fn weigh(test: bool, w: u32) -> u32
-    ensures { λ r. ⌜ (r ≡ weigh test w) × (r ≤ w) ⌝ }
+pub fn word_if(test: bool, w: u32) -> u32
+    ensures { λ r. ⌜ (r ≡ wordIf test w) × (r ≤ w) ⌝ }
 {
     if test { w } else { 0 }
 }
 
-// The eight source bits, those that the mask has. Over plain bools: a proof about the sum need not look into a state.
+// The source bits that the mask has. Over plain bools: a proof about the sum need not look into a state.
 fn source_bits(m: u8, a: bool, b: bool, c: bool, d: bool, e: bool, f: bool, g: bool, h: bool) -> u32
-    ensures { λ r. ⌜ r ≡ weigh (a && bit 0 m) 1 + weigh (b && bit 1 m) 2 + weigh (c && bit 2 m) 4 + weigh (d && bit 3 m) 8 + weigh (e && bit 4 m) 16 + weigh (f && bit 5 m) 32 + weigh (g && bit 6 m) 64 + weigh (h && bit 7 m) 128 ⌝ }
+    ensures { λ r. ⌜ r ≡ wordIf (a && bit 0 m) 1 + wordIf (b && bit 1 m) 2 + wordIf (c && bit 2 m) 4 + wordIf (d && bit 3 m) 8 + wordIf (e && bit 4 m) 16 + wordIf (f && bit 5 m) 32 + wordIf (g && bit 6 m) 64 + wordIf (h && bit 7 m) 128 ⌝ }
 {
-    weigh(a & (m / 1 % 2 == 1), 1)
-        + weigh(b & (m / 2 % 2 == 1), 2)
-        + weigh(c & (m / 4 % 2 == 1), 4)
-        + weigh(d & (m / 8 % 2 == 1), 8)
-        + weigh(e & (m / 16 % 2 == 1), 16)
-        + weigh(f & (m / 32 % 2 == 1), 32)
-        + weigh(g & (m / 64 % 2 == 1), 64)
-        + weigh(h & (m / 128 % 2 == 1), 128)
+    word_if(a & bank::byte_low_bit(m), 1)
+        + word_if(b & (m / 2 % 2 == 1), 2)
+        + word_if(c & (m / 4 % 2 == 1), 4)
+        + word_if(d & (m / 8 % 2 == 1), 8)
+        + word_if(e & (m / 16 % 2 == 1), 16)
+        + word_if(f & (m / 32 % 2 == 1), 32)
+        + word_if(g & (m / 0x40 % 2 == 1), 64)
+        + word_if(h & (m / 0x80 % 2 == 1), 128)
 }
 
-// The sources of an interrupt, those that the mask has: IRQ_SOURCE has all, IRQ_PENDING those of IRQ_MASK.
+// The interrupt sources that the mask has: all for IRQ_SOURCE (`source.read`), those of IRQ_MASK for IRQ_PENDING
+// (`pending.read`). Bits 0 to 4 are `source.levels`.
 pub fn sources_in(st: State, m: u8) -> u32
     ensures { λ r. ⌜ ((t : Tables) (f : Fronts) → r ≡ sources m (seen st t f)) ⌝ }
 {
@@ -57,11 +58,11 @@ pub fn sources_in(st: State, m: u8) -> u32
     )
 }
 
-// FIFO_STATUS, by the levels.
+// FIFO_STATUS, by the levels (`status.read`).
 pub fn status_word(cmdr: u32, ibi: u32, sdi: u32) -> u32
-    ensures { λ r. ⌜ r ≡ weigh (eqb cmdr 0) 1 + weigh (eqb ibi 0) 2 + weigh (eqb sdi 0) 4 ⌝ }
+    ensures { λ r. ⌜ r ≡ wordIf (eqb cmdr 0) 1 + wordIf (eqb ibi 0) 2 + wordIf (eqb sdi 0) 4 ⌝ }
 {
-    weigh(cmdr == 0, 1) + weigh(ibi == 0, 2) + weigh(sdi == 0, 4)
+    word_if(cmdr == 0, 1) + word_if(ibi == 0, 2) + word_if(sdi == 0, 4)
 }
 
 // A byte as a word.
@@ -71,11 +72,11 @@ pub fn wide(x: u8) -> u32
     x as u32
 }
 
-// OPS, with its bit 7.
+// OPS, with its bit 7 (`ops.keeps`).
 pub fn ops_word(idle: bool, ops: u8) -> u32
-    ensures { λ r. ⌜ r ≡ weigh idle 128 + ops ⌝ }
+    ensures { λ r. ⌜ r ≡ wordIf idle 128 + ops ⌝ }
 {
-    weigh(idle, 128) + wide(ops)
+    word_if(idle, 128) + wide(ops)
 }
 
 // The flags of a device, or 0 past the last address.
@@ -89,11 +90,11 @@ pub fn flags_at(flags: &[u8], a: u8) -> u8
     0
 }
 
-// DEV_CHAR: the selected address and its flags.
+// DEV_CHAR: the selected address and its flags (`dev-char.read`).
 pub fn device_word(selected: u8, f: u8) -> u32
     ensures { λ r. ⌜ r ≡ selected * 2 ^ 9 + f * 2 ⌝ }
 {
-    wide(selected) * 512 + wide(f) * 2
+    wide(selected) * 0x200 + wide(f) * 2
 }
 
 // A word of an offload memory, or 0 past its end.
@@ -107,7 +108,7 @@ pub fn offload_word(words: &[u32], i: u32) -> u32
     0
 }
 
-// A read that changes nothing.
+// A read that changes nothing (`map.reads`).
 pub fn show(st: State, value: u32) -> Effect
     ensures { λ e. ⌜ ((t : Tables) (f : Fronts) → effectOf e t ≡ (unchanged (seen st t f) withValue value)) ⌝ }
 {
@@ -118,13 +119,13 @@ pub fn show(st: State, value: u32) -> Effect
     effect::done(st, value, 0, g, c, p, o)
 }
 
-// A read of CMDR; one that empties the queue clears pending bit 5.
+// A read of CMDR (`take.read`); one that empties the queue clears pending bit 5 (`source.receipt`).
 pub fn read_cmdr(st: State, word: u32) -> Effect
     ensures { λ e. ⌜ ((t : Tables) (f : Fronts) → word ≡ f .cmdr .first → effectOf e t ≡ verdict (read (row CmdrFifo)) (seen st t f)) ⌝ }
 {
     let level = st.levels.cmdr.0;
     if level == 0 {
-        return effect::refuse(st, 3);
+        return effect::refuse(st, number::EMPTY);
     }
     let g = st.regs;
     let mut c = st.control;
@@ -134,13 +135,13 @@ pub fn read_cmdr(st: State, word: u32) -> Effect
     effect::done(st, word, 0, g, c, p, o)
 }
 
-// A read of SDI.
+// A read of SDI (`take.read`).
 pub fn read_sdi(st: State, word: u32) -> Effect
     ensures { λ e. ⌜ ((t : Tables) (f : Fronts) → word ≡ f .sdi .first → effectOf e t ≡ verdict (read (row SdiFifo)) (seen st t f)) ⌝ }
 {
     let level = st.levels.sdi.0;
     if level == 0 {
-        return effect::refuse(st, 3);
+        return effect::refuse(st, number::EMPTY);
     }
     let g = st.regs;
     let c = st.control;
@@ -149,13 +150,13 @@ pub fn read_sdi(st: State, word: u32) -> Effect
     effect::done(st, word, 0, g, c, p, o)
 }
 
-// A read of IBI; one that empties the queue clears pending bit 6.
+// A read of IBI (`take.read`); one that empties the queue clears pending bit 6 (`source.interrupt`).
 pub fn read_ibi(st: State, word: u32) -> Effect
     ensures { λ e. ⌜ ((t : Tables) (f : Fronts) → word ≡ f .ibi .first → effectOf e t ≡ verdict (read (row IbiFifo)) (seen st t f)) ⌝ }
 {
     let level = st.levels.ibi.0;
     if level == 0 {
-        return effect::refuse(st, 3);
+        return effect::refuse(st, number::EMPTY);
     }
     let g = st.regs;
     let mut c = st.control;

@@ -1,11 +1,11 @@
-// Records of a trace, 02 §1: which call one names.
+// Records of a trace (`trace.record`, `trace.wrong`): which call one names, its bytes, and how many some bytes have.
 ghost use mathlib.Core.Path.{_≡_};
 ghost use mathlib.Core.Bool.{cond};
 ghost use Prim.Native.Nat.{_+_, _*_, _<_, _≤_};
 ghost use lib.ListN.{length};
 ghost use Rattle.letters.specs.declared.Parsed.the-variants.{Named, Skipped};
 ghost use Rattle.letters.specs.Forms.{formOf};
-ghost use Rattle.record_model.specs.Record.{rec, namedIn, recordAt, within};
+ghost use Rattle.record_model.specs.Record.{rec, namedIn, recordAt, wholeRecords};
 ghost use Rattle.record_model.specs.Writer.{recordBytes};
 use letters::Parsed;
 use model::Call;
@@ -20,7 +20,7 @@ fn when(right: bool, c: Call) -> Parsed
     Parsed::Skipped
 }
 
-// The call of a record, by its fields. No right record has a field that a remainder cuts.
+// The call of a record, by its fields; a remainder cuts no field of a right record.
 fn named(letter: u8, zero: u8, offset: u32, v: u32, w: u32) -> Parsed
     requires { ⌜ offset < 65536 ⌝ }
     ensures { λ p. ⌜ p ≡ namedIn (formOf letter) (rec letter zero offset v w) ⌝ }
@@ -88,7 +88,7 @@ pub fn bytes_of(letter: u8, offset: u32, v: u32, w: u32) -> [u8; 12]
 
 // How many whole records so many bytes have, up to a limit.
 pub fn whole(limit: usize, bytes: &[u8]) -> usize
-    ensures { λ n. ⌜ (n ≡ within limit (now (bytes .entry))) × (12 * n ≤ length (now (bytes .entry))) ⌝ }
+    ensures { λ n. ⌜ (n ≡ wholeRecords limit (now (bytes .entry))) × (12 * n ≤ length (now (bytes .entry))) ⌝ }
 {
     let n = bytes.len() / 12;
     if limit < n { limit } else { n }

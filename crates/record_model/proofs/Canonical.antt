@@ -11,9 +11,9 @@ use lib.ListN.{length, getD}
 use borrow.Author.Tests.{eqb-true, ltb-true}
 use Rattle.model.specs.declared.Call.{Call}
 use Rattle.letters.specs.declared.Parsed.the-variants.{Named, Skipped}
-use Rattle.letters.specs.Forms.{Form, forms, find}
+use Rattle.letters.specs.Forms.{Fields, offsetDigits, Form, forms, formWith}
 use Rattle.trace_model.proofs.Table.{and-true}
-use Rattle.record_model.specs.Record.{Record, fieldsAt, hasOffset, values, fits, right, arguments, namedIn}
+use Rattle.record_model.specs.Record.{Record, fieldsAt, fits, right, namedIn}
 use Rattle.record_model.specs.Writer.{bytesOf, recordOf, recordBytes, RightIsWritten}
 
 -- ── Bytes ─────────────────────────────────────────────────────────────────────────────────────────────────────
@@ -49,7 +49,7 @@ record-again bytes e h =
 
 -- ── Fields ────────────────────────────────────────────────────────────────────────────────────────────────────
 -- what the tests of a right record tell
-abbrev Fits : ℕ → ℕ → Type 0
+abbrev pub Fits : ℕ → ℕ → Type 0
 Fits zero x = x ≡ 0
 Fits (suc d) x = x < 16 ^ suc d
 
@@ -57,14 +57,14 @@ fits-true : (d x : ℕ) → fits d x ≡ true → Fits d x
 fits-true zero x e = eqb-true x 0 e
 fits-true (suc d) x e = ltb-true x (16 ^ suc d) e
 
-abbrev Right : List ℕ → Record → Type 0
-Right fields r = (r .zero-byte ≡ 0) × Fits (cond (hasOffset fields) 4 0) (r .offset) × Fits (getD (values fields) 0 0) (r .first) × Fits (getD (values fields) 1 0) (r .second)
+abbrev pub Right : Fields → Record → Type 0
+Right fs r = (r .zero-byte ≡ 0) × Fits (offsetDigits fs) (r .offset) × Fits (fs .first) (r .first) × Fits (fs .second) (r .second)
 
-right-true : (fields : List ℕ) (r : Record) → right fields r ≡ true → Right fields r
-right-true fields r e =
-    let d : ℕ = cond (hasOffset fields) 4 0 in
-    let v = getD (values fields) 0 0 in
-    let w = getD (values fields) 1 0 in
+pub right-true : (fs : Fields) (r : Record) → right fs r ≡ true → Right fs r
+right-true fs r e =
+    let d = offsetDigits fs in
+    let v = fs .first in
+    let w = fs .second in
     let a = and-true (eqb (r .zero-byte) 0) (fits d (r .offset) && (fits v (r .first) && fits w (r .second))) e in
     let b = and-true (fits d (r .offset)) (fits v (r .first) && fits w (r .second)) (a .1) in
     let c = and-true (fits v (r .first)) (fits w (r .second)) (b .1) in
@@ -73,10 +73,7 @@ right-true fields r e =
 -- ── Rows ──────────────────────────────────────────────────────────────────────────────────────────────────────
 -- the call that a row names, and that its record is the one at hand, field by field
 abbrev called : Form → Record → Call
-called f r =
-    let n = length (f .fields) in
-    let xs = arguments (f .fields) r in
-    f .call (getD xs (n - 2) 0) (getD xs (n - 1) 0)
+called f r = f .call (r .offset) (r .first) (r .second)
 
 abbrev Same : Record → Record → Type 0
 Same q r = (q .letter ≡ r .letter) × (q .zero-byte ≡ r .zero-byte) × (q .offset ≡ r .offset) × (q .first ≡ r .first) × (q .second ≡ r .second)
@@ -109,10 +106,10 @@ module _ (r : Record) (k : Call) where
       ap recordOf (sym (z .1)) ∙ same (recordOf (called f r)) r (p r (l refl) (right-true (f .fields) r (z .0)))
   by-row false f o l p q e = q e
 
-  by-rows : (fs : List Form) → AllTold fs → namedIn (find (r .letter) fs) r ≡ Named k → recordOf k ≡ r
-  unfolding find
+  by-rows : (fs : List Form) → AllTold fs → namedIn (formWith (r .letter) fs) r ≡ Named k → recordOf k ≡ r
+  unfolding formWith
   by-rows [] a e = absurd (let z : _≡_ {A = ℕ} 0 1 = cc in omega arith)
-  by-rows (f ∷ fs) a e = by-row (eqb (r .letter) (f .letter)) f (find (r .letter) fs) (eqb-true _ _) (a .0) (by-rows fs (a .1)) e
+  by-rows (f ∷ fs) a e = by-row (eqb (r .letter) (f .letter)) f (formWith (r .letter) fs) (eqb-true _ _) (a .0) (by-rows fs (a .1)) e
 
 pub right-is-written : RightIsWritten
 unfolding RightIsWritten

@@ -11,7 +11,7 @@ use borrow.Author.Tests.{lt-ltb, le-leb, eq-eqb}
 use Rattle.model.specs.declared.Call.{Call}
 use Rattle.letters.specs.declared.Parsed.the-variants.{Named}
 use Rattle.little_endian.specs.Numbers.{fourAt}
-use Rattle.trace_model.specs.Format.{mark, opens, sections, startAt, countAt, records, placeOf, startsRight, tableRight, fault, lookNumber, section}
+use Rattle.trace_model.specs.Format.{mark, beginsWith, sections, startAt, countAt, records, sectionPlace, startsRight, tableRight, fault, lookNumber, section}
 use Rattle.trace_model.proofs.Table.{and-true, measured}
 use Rattle.trace_model.proofs.Sections.{handed}
 use Rattle.record_model.specs.Writer.{bytesOf, allWritable, sectionBytes, allBytes, tableBytes, traceOf, namedFrom, sectionOf, everyWritable, WrittenIsRead}
@@ -69,7 +69,7 @@ entry (ks ∷ ss) at (suc i) rest b h =
 -- ── A file ────────────────────────────────────────────────────────────────────────────────────────────────────
 -- what the file of some sections is: its mark, its count, its entries, and behind them the sections
 pub record Written (ss : List (List Call)) (file : List ℕ) : Type 0 where
-  pub marked : opens mark file ≡ true
+  pub marked : beginsWith mark file ≡ true
   pub counted : sections file ≡ length ss
   pub entries : (i : ℕ) → i < length ss → (startAt file i ≡ 6 + 8 * length ss + length (allBytes (take i ss))) × (countAt file i ≡ length (sectionOf ss i))
   pub behind : drop (6 + 8 * length ss) file ≡ allBytes ss
@@ -99,7 +99,7 @@ module _ (ss : List (List Call)) (file : List ℕ) (w : Written ss file) where
   records-are zero h = refl
   records-are (suc i) h = omega (arith, records-are i (omega arith), w .entries i (omega arith) .1, all-next ss i)
 
-  place-is : (i : ℕ) → i ≤ length ss → placeOf file i ≡ 6 + 8 * length ss + length (allBytes (take i ss))
+  place-is : (i : ℕ) → i ≤ length ss → sectionPlace file i ≡ 6 + 8 * length ss + length (allBytes (take i ss))
   place-is i h = omega (arith, records-are i h, w .counted)
 
   pub starts-are : (i : ℕ) → i ≤ length ss → startsRight file i ≡ true
@@ -107,7 +107,7 @@ module _ (ss : List (List Call)) (file : List ℕ) (w : Written ss file) where
   starts-are zero h = refl
   starts-are (suc i) h = rw (starts-are i (omega arith)) (eq-eqb _ _ (w .entries i (omega arith) .0 ∙ sym (place-is i (omega arith))))
 
-  pub ends-are : length file ≡ placeOf file (length ss)
+  pub ends-are : length file ≡ sectionPlace file (length ss)
   ends-are = w .long ∙ ap (λ (x : List (List Call)). 6 + 8 * length ss + length (allBytes x)) (sym (take-length ss)) ∙ sym (place-is (length ss) (omega arith))
 
   table-is : 1 ≤ length ss → length ss ≤ 64 → length file ≤ 0x1000000 → true ≡ tableRight file

@@ -1,7 +1,6 @@
 -- A record as it is written: its call is read again, and so are those of a section.
 use Prim.Native.Nat.{ℕ, zero, suc, _+_, _*_, _<_}
 use native.Mathlib.Omega.{arith}
-use native.Mathlib.Nat.{mod-eq-of-lt}
 use mathlib.Core.Path.{_≡_, refl, ap, _∙_}
 use mathlib.Core.Bool.{true, _&&_, false≢true}
 use mathlib.Core.List.{List, [], _∷_, _++_, map}
@@ -12,7 +11,7 @@ use borrow.Author.Tests.{lt-ltb, ltb-true}
 use Rattle.model.specs.declared.Call.{Call}
 use Rattle.model.specs.declared.Call.the-variants.{Read, Write, Start, Send, Receive, Finish, Interrupt, Request, Take, Trigger}
 use Rattle.letters.specs.declared.Parsed.the-variants.{Named}
-use Rattle.letters.specs.Forms.{forms, find, formOf}
+use Rattle.letters.specs.Forms.{forms, formWith, formOf}
 use Rattle.little_endian.specs.Numbers.{twoAt, fourAt}
 use Rattle.trace_model.proofs.Table.{and-true}
 use Rattle.record_model.specs.Record.{Record, fieldsAt, namedIn, recordAt}
@@ -77,14 +76,14 @@ holds Take e = omega arith
 holds Trigger e = absurd (false≢true e)
 
 pub call-named : (k : Call) → writable k ≡ true → namedIn (formOf (recordOf k .letter)) (recordOf k) ≡ Named k
-unfolding forms find
-call-named (Read o) e = rw (e, mod-eq-of-lt (ltb-true _ _ e))
-call-named (Write o v) e = let h = both o 0x10000 v 0x100000000 e in rw (lt-ltb _ _ (h .0), lt-ltb _ _ (h .1), mod-eq-of-lt (h .0))
+unfolding forms formWith
+call-named (Read o) e = rw e
+call-named (Write o v) e = let h = both o 0x10000 v 0x100000000 e in rw (lt-ltb _ _ (h .0), lt-ltb _ _ (h .1))
 call-named Start e = refl
 call-named Send e = refl
-call-named (Receive b) e = rw (e, mod-eq-of-lt (ltb-true _ _ e))
-call-named (Finish c) e = rw (e, mod-eq-of-lt (ltb-true _ _ e))
-call-named (Interrupt a b) e = let h = both a 0x100 b 0x100 e in rw (lt-ltb _ _ (h .0), lt-ltb _ _ (h .1), mod-eq-of-lt (h .0), mod-eq-of-lt (h .1))
+call-named (Receive b) e = rw e
+call-named (Finish c) e = rw e
+call-named (Interrupt a b) e = let h = both a 0x100 b 0x100 e in rw (lt-ltb _ _ (h .0), lt-ltb _ _ (h .1))
 call-named (Request v w) e = let h = both v 0x100000000 w 0x100000000 e in rw (lt-ltb _ _ (h .0), lt-ltb _ _ (h .1))
 call-named Take e = refl
 call-named Trigger e = absurd (false≢true e)

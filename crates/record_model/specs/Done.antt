@@ -6,7 +6,7 @@ use mathlib.Core.List.{List, [], _∷_, foldl}
 use Rattle.model.specs.declared.Call.{Call}
 use Rattle.letters.specs.declared.Parsed.{Parsed}
 use Rattle.letters.specs.declared.Parsed.the-variants.{Named, Skipped}
-use Rattle.record_model.specs.Record.{each}
+use Rattle.record_model.specs.Record.{eachRecord}
 use Rattle.record_model.specs.Writer.{namedFrom}
 
 -- of what records name: the calls before a wrong one, and whether there is one
@@ -25,4 +25,4 @@ unfoldable pub EachIsMade : Type 1
 EachIsMade = (A : Type 0) (make : Call → A → A) (stop : A → A) (n : ℕ) (bytes : List ℕ) (i : ℕ) (a : A)
     → (let ps = namedFrom n bytes i in
     let x = foldl (λ x k. make k x) a (callsBefore ps) in
-    each make stop n bytes i a ≡ cond (anyWrong ps) (stop x) x)
+    eachRecord make stop n bytes i a ≡ cond (anyWrong ps) (stop x) x)

@@ -1,17 +1,17 @@
--- A record of a trace, 02 §1, and the call that it names: the letters of the session, by the session's own rows.
-use Prim.Native.Nat.{ℕ, zero, suc, _+_, _-_, _*_, _/_, _^_}
+-- A record of a trace (`trace.record`), and the call that it names by the row of its letter in crates/letters/specs/Forms.antt.
+use Prim.Native.Nat.{ℕ, zero, suc, _+_, _*_, _/_, _^_}
 use mathlib.Core.Bool.{Bool, cond, _&&_}
-use mathlib.Core.List.{List, [], _∷_}
+use mathlib.Core.List.{List}
 use mathlib.Core.Option.{Option, none, some}
 use lib.Dec.{eqb, ltb}
-use lib.ListN.{length, getD, drop}
+use lib.ListN.{length, getD}
 use Rattle.model.specs.declared.Call.{Call}
 use Rattle.letters.specs.declared.Parsed.{Parsed}
 use Rattle.letters.specs.declared.Parsed.the-variants.{Named, Skipped}
-use Rattle.letters.specs.Forms.{Form, formOf}
+use Rattle.letters.specs.Forms.{Fields, offsetDigits, Form, formOf}
 use Rattle.little_endian.specs.Numbers.{twoAt, fourAt}
 
--- "A record is 12 bytes: the session letter, a zero byte, a 16-bit offset, two 32-bit values"
+-- 12 bytes: a letter, a byte of 0, an offset of two bytes, and two values of four
 pub record Record : Type 0 where
   pub letter : ℕ
   pub zero-byte : ℕ
@@ -26,33 +26,23 @@ rec l z o v w = record { letter = l; zero-byte = z; offset = o; first = v; secon
 abbrev pub fieldsAt : List ℕ → ℕ → Record
 fieldsAt bytes i = rec (getD bytes (12 * i) 0) (getD bytes (12 * i + 1) 0) (twoAt bytes (12 * i + 2)) (fourAt bytes (12 * i + 4)) (fourAt bytes (12 * i + 8))
 
--- the session's field of four digits is an offset, and comes first; "arguments fill the values in order"
-abbrev pub hasOffset : List ℕ → Bool
-hasOffset fields = eqb (getD fields 0 0) 4
-
-abbrev pub values : List ℕ → List ℕ
-values fields = cond (hasOffset fields) (drop 1 fields) fields
-
--- "unused fields are zero"; the others hold what the session's field of so many hex digits can: "a byte, address or code above 255" does not fit
+-- a field holds a number of so many hex digits at most, two where it is a byte, and 0 where the letter does not use it
 abbrev pub fits : ℕ → ℕ → Bool
 fits zero x = eqb x 0
 fits (suc d) x = ltb x (16 ^ suc d)
 
-abbrev pub right : List ℕ → Record → Bool
-right fields r =
-    eqb (r .zero-byte) 0
-    && (fits (cond (hasOffset fields) 4 0) (r .offset) && (fits (getD (values fields) 0 0) (r .first) && fits (getD (values fields) 1 0) (r .second)))
+-- whether a letter uses the record's offset
+abbrev pub hasOffset : Fields → Bool
+hasOffset fs = fs .offset
 
-abbrev pub arguments : List ℕ → Record → List ℕ
-arguments fields r = let vs = r .first ∷ r .second ∷ [] in cond (hasOffset fields) (r .offset ∷ vs) vs
+-- a record is right by its letter's row where its second byte is 0 and each field holds what the row says (`trace.wrong`)
+abbrev pub right : Fields → Record → Bool
+right fs r = eqb (r .zero-byte) 0 && (fits (offsetDigits fs) (r .offset) && (fits (fs .first) (r .first) && fits (fs .second) (r .second)))
 
--- the call of a right record, by its last argument and the one before; `Skipped` says of a record that it is wrong
+-- the call of a right record; `Skipped` says of a record that it is wrong
 abbrev pub namedIn : Option Form → Record → Parsed
 namedIn none r = Skipped
-namedIn (some f) r =
-    let n = length (f .fields) in
-    let xs = arguments (f .fields) r in
-    cond (right (f .fields) r) (Named (f .call (getD xs (n - 2) 0) (getD xs (n - 1) 0))) Skipped
+namedIn (some f) r = cond (right (f .fields) r) (Named (f .call (r .offset) (r .first) (r .second))) Skipped
 
 abbrev pub recordAt : List ℕ → ℕ → Parsed
 recordAt bytes i = let r = fieldsAt bytes i in namedIn (formOf (r .letter)) r
@@ -63,10 +53,10 @@ onward make stop (Named k) a rest = rest (make k a)
 onward make stop Skipped a rest = stop a
 
 -- n records, from record i on, one after another
-unfoldable pub each : {A : Type 0} → (Call → A → A) → (A → A) → ℕ → List ℕ → ℕ → A → A
-each make stop zero bytes i a = a
-each make stop (suc n) bytes i a = onward make stop (recordAt bytes i) a (each make stop n bytes (suc i))
+unfoldable pub eachRecord : {A : Type 0} → (Call → A → A) → (A → A) → ℕ → List ℕ → ℕ → A → A
+eachRecord make stop zero bytes i a = a
+eachRecord make stop (suc n) bytes i a = onward make stop (recordAt bytes i) a (eachRecord make stop n bytes (suc i))
 
 -- the whole records among some bytes, and no more than a limit
-abbrev pub within : ℕ → List ℕ → ℕ
-within limit bytes = let n = length bytes / 12 in cond (ltb limit n) limit n
+abbrev pub wholeRecords : ℕ → List ℕ → ℕ
+wholeRecords limit bytes = let n = length bytes / 12 in cond (ltb limit n) limit n

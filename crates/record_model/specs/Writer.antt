@@ -1,5 +1,6 @@
--- A trace as it is written, 02 §1, and that what was written is read again.
+-- A trace as it is written (`trace.form`, `trace.record`), and that what was written is read again.
 use Prim.Native.Nat.{ℕ, zero, suc, _+_, _*_, _/_, _%_, _<_, _≤_}
+use Prim.Native.Char.{code}
 use mathlib.Core.Path.{_≡_}
 use mathlib.Core.Bool.{Bool, true, false, _&&_}
 use mathlib.Core.List.{List, [], _∷_, _++_, map}
@@ -12,22 +13,22 @@ use Rattle.letters.specs.declared.Parsed.the-variants.{Named}
 use Rattle.trace_model.specs.Format.{mark, lookNumber, section}
 use Rattle.record_model.specs.Record.{Record, rec, recordAt}
 
--- "little-endian throughout": so many bytes of a number
+-- so many bytes of a number, the low byte first
 abbrev pub bytesOf : ℕ → ℕ → List ℕ
 bytesOf zero n = []
 bytesOf (suc k) n = n % 256 ∷ bytesOf k (n / 256)
 
--- "arguments fill the values in order, unused fields are zero"; "The trigger has no letter": its record is a wrong one
+-- the record of a call, with 0 in each field that its letter does not use. The trigger has no letter: its record is a wrong one
 abbrev pub recordOf : Call → Record
-recordOf (Read o) = rec 0x52 0 o 0 0
-recordOf (Write o v) = rec 0x57 0 o v 0
-recordOf Start = rec 0x53 0 0 0 0
-recordOf Send = rec 0x54 0 0 0 0
-recordOf (Receive b) = rec 0x58 0 0 b 0
-recordOf (Finish c) = rec 0x46 0 0 c 0
-recordOf (Interrupt a b) = rec 0x49 0 0 a b
-recordOf (Request v w) = rec 0x44 0 0 v w
-recordOf Take = rec 0x41 0 0 0 0
+recordOf (Read o) = rec (code "R") 0 o 0 0
+recordOf (Write o v) = rec (code "W") 0 o v 0
+recordOf Start = rec (code "S") 0 0 0 0
+recordOf Send = rec (code "T") 0 0 0 0
+recordOf (Receive b) = rec (code "X") 0 0 b 0
+recordOf (Finish c) = rec (code "F") 0 0 c 0
+recordOf (Interrupt a b) = rec (code "I") 0 0 a b
+recordOf (Request v w) = rec (code "D") 0 0 v w
+recordOf Take = rec (code "A") 0 0 0 0
 recordOf Trigger = rec 0 0 0 0 0
 
 abbrev pub recordBytes : Record → List ℕ

@@ -1,4 +1,4 @@
--- Looking an offset up in the map.
+-- The look-up of an offset in the list of registers, case by case, for the `match` of the code.
 use Prim.Native.Nat.{ℕ, _-_, _/_, _%_, _<_, _≤_}
 use native.Mathlib.Omega.{arith}
 use mathlib.Core.Path.{_≡_, refl}
@@ -8,15 +8,15 @@ use mir.Syntax.{w16, w32}
 use borrow.Author.Tests.{le-leb, lt-leb, eq-eqb, ne-eqb}
 use Rattle.registers.specs.declared.Register.{Register}
 use Rattle.registers.specs.declared.Register.the-variants.{OffloadCmd, OffloadSdo, Unmapped}
-use Rattle.registers.specs.Map.{Entry, named, find, offload, registerAt}
+use Rattle.registers.specs.Map.{Entry, named, entryAt, offload, registerAt}
 
 -- that o is the offset of no row, as a `match` tells it
 abbrev pub AbsentFrom : Type 0 → ℕ → List Entry → Type 0
 AbsentFrom acc o [] = acc
 AbsentFrom acc o (r ∷ rs) = AbsentFrom (acc × (o ≡ r .offset → ⊥)) o rs
 
-absent : (o : ℕ) (other : Register) (acc : Type 0) (t : List Entry) → AbsentFrom acc o t → (find o t other ≡ other) × acc
-unfolding find
+absent : (o : ℕ) (other : Register) (acc : Type 0) (t : List Entry) → AbsentFrom acc o t → (entryAt o t other ≡ other) × acc
+unfolding entryAt
 absent o other acc [] h = (refl, h)
 absent o other acc (r ∷ rs) h =
     let ih = absent o other (acc × (o ≡ r .offset → ⊥)) rs h in

@@ -1,4 +1,4 @@
--- 01's list of offsets, section 'Register map': the registers with an offset of their own, and the two offload memories.
+-- `map.offsets`: the registers with an offset of their own, and the two offload memories. 01, 'Register map'.
 use Prim.Native.Nat.{ℕ, _+_, _-_, _/_, _%_}
 use mathlib.Core.Bool.{Bool, cond, _&&_}
 use mathlib.Core.List.{List, [], _∷_}
@@ -27,17 +27,18 @@ named =
     ∷ 0x180 is DevChar
     ∷ []
 
--- sixteen words from base on
-abbrev pub within : ℕ → ℕ → Bool
-within base o = leb base o && leb o (base + 0x3c) && eqb (o % 4) 0
+-- the offset of one of sixteen words from base on
+abbrev pub inMemory : ℕ → ℕ → Bool
+inMemory base o = leb base o && leb o (base + 0x3c) && eqb (o % 4) 0
 
--- "0x2c0 to 0x2fc, 0x300 to 0x33c: sixteen offload commands, sixteen offload data words"; number 4 is for what is in neither list
+-- `offload.keeps`: the offload command or data word at an offset; Unmapped, which is answered 4, at any other
 unfoldable pub offload : ℕ → Register
-offload o = cond (within 0x2c0 o) (OffloadCmd ((o - 0x2c0) / 4)) (cond (within 0x300 o) (OffloadSdo ((o - 0x300) / 4)) Unmapped)
+offload o = cond (inMemory 0x2c0 o) (OffloadCmd ((o - 0x2c0) / 4)) (cond (inMemory 0x300 o) (OffloadSdo ((o - 0x300) / 4)) Unmapped)
 
-unfoldable pub find : ℕ → List Entry → Register → Register
-find o [] other = other
-find o (e ∷ es) other = let r = find o es other in cond (eqb o (e .offset)) (e .register) r
+unfoldable pub entryAt : ℕ → List Entry → Register → Register
+entryAt o [] other = other
+entryAt o (e ∷ es) other = let r = entryAt o es other in cond (eqb o (e .offset)) (e .register) r
 
+-- the register at an offset
 abbrev pub registerAt : ℕ → Register
-registerAt o = find o named (offload o)
+registerAt o = entryAt o named (offload o)

@@ -1,8 +1,9 @@
-// The register map: which register stands at an offset. Reads and writes share it.
+// The register map (`map.offsets`): which register stands at an offset. Reads and writes share it; it knows nothing of
+// what a register does.
 ghost use mathlib.Core.Path.{_≡_};
 ghost use Rattle.registers.specs.Map.{registerAt};
 
-// The registers of 001. An offload register has its place in its memory, 0 to 15.
+// The registers, by 001's names. An offload register has its place in its memory, 0 to 15.
 pub enum Register {
     Version,
     Id,
@@ -27,7 +28,7 @@ pub enum Register {
     DevChar,
     OffloadCmd(u32),
     OffloadSdo(u32),
-    // An offset that is not in the map, or not a multiple of 4.
+    // Any other offset.
     Unmapped,
 }
 

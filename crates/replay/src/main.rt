@@ -1,15 +1,15 @@
-// 02 §1's replay: a trace from standard input, on the session's bank; a line for each record to standard output, and one
-// for 24, 25 or 27. It reads and writes in pieces, and its buffers are within 64 KiB. Where input or output fails it, it
-// says so on standard error; what could not be read counts as not there.
+// The program `replay` (`replay.program`, `replay.ends`, `replay.length`): a trace from standard input on the session's
+// bank, and lines to standard output, in pieces, with buffers of 64 KiB at most. Where input or output fails, it says
+// so on standard error (`program.failure`); what could not be read counts as not there.
 ghost use mathlib.Core.Path.{_≡_};
 ghost use Prim.Native.Nat.{_≤_, _<_};
 ghost use lib.ListN.{length};
 use bank::Bank;
 use stream_model::Stage;
 
-// The bank, what is to come, and how many bytes at the front of the buffer were not used; how many answers were written;
-// whether there may be more to read; whether the input could be read, and all output be written.
-struct Went {
+// The bank, what is to come, and how many bytes at the front of the buffer were not used; how many answers were
+// written; whether there may be more to read; whether the input could be read, and all output be written.
+struct Turn {
     bank: Bank,
     stage: Stage,
     held: usize,
@@ -40,7 +40,7 @@ fn output_failed(answers: u64) {
     );
 }
 
-// More of the input, behind what is there.
+// More of the input, read in behind the bytes held.
 fn fill(buf: &mut [u8], held: usize) -> Filled
     requires { ⌜ held ≤ length (now buf) ⌝ }
     ensures { λ r. ⌜ (held ≤ r .have) × (r .have ≤ length (now (buf .exit))) ⌝ }
@@ -62,14 +62,14 @@ fn turn(
     buf: &mut [u8],
     out: &mut [u8],
     answers: u64,
-) -> Went
+) -> Turn
     requires { ⌜ (held < 518) × (length (now buf) ≡ 24576) × (length (now out) ≡ 24588) ⌝ }
     ensures { λ r. ⌜ r .held < 518 ⌝ }
 {
     let filled = fill(buf, held);
     let have = filled.have;
     if have == held {
-        return Went {
+        return Turn {
             bank: b,
             stage: stage,
             held: held,
@@ -87,7 +87,7 @@ fn turn(
     buffer::shift(buf, used, rest);
     let next = f.bank;
     let to_come = f.stage;
-    Went {
+    Turn {
         bank: next,
         stage: to_come,
         held: rest,

@@ -37,7 +37,7 @@ pub wrap : (h i c : ℕ) → h < c → i ≤ c → ((h + i) % c ≡ h + i) ⊎ (
 wrap h i c p q =
     elim (decLt (h + i) c) [ yes l ↦ inl (mod-eq-of-lt l) | no n ↦ inr (let e : (h + i) % c ≡ h + i - c = mod-eq-sub-mod (omega arith) ∙ mod-eq-of-lt (omega arith) in omega arith) ]
 
--- past the wrap a place is what the entries before it leave
+-- past the wrap a place is the number less what is left before the wrap
 pub wrapped : (h i c : ℕ) → h < c → i ≤ c → c - h ≤ i → i - (c - h) ≡ (h + i) % c
 wrapped h i c p q l = let e : (h + i) % c ≡ h + i - c = mod-eq-sub-mod (omega arith) ∙ mod-eq-of-lt (omega arith) in omega arith
 
@@ -97,7 +97,7 @@ pub entries-clear : (r : Ring) (base : ℕ) (s : List ℕ) → entries (clearedO
 unfolding entries
 entries-clear r base s = refl
 
--- a word outside the area may change
+-- a word outside the area changes no entry
 pub entries-other : (r : Ring) (base : ℕ) (s : List ℕ) (at w : ℕ) → Valid r → (at < base) ⊎ (base + r .cap .0 ≤ at)
     → entries r base (set s at w) ≡ entries r base s
 unfolding entries
@@ -105,7 +105,7 @@ entries-other r base s at w f o =
     read-agree (set s at w) s (λ i. base + placeOf r i) (λ i. base + placeOf r i) (r .level .0)
     (λ i p. getD-set-other s at (base + placeOf r i) w 0 (λ e. let b = place-below r f i in ⊎-elim (λ l. omega arith) (λ l. omega arith) o))
 
--- a ring stays in order
+-- a ring stays valid over a push and a take
 pub valid-push : (r : Ring) → Valid r → r .level .0 < r .cap .0 → Valid (pushedOf r)
 valid-push r f h = record { cap-least = f .cap-least; head-below = f .head-below; level-most = omega arith }
 

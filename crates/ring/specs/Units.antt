@@ -1,4 +1,4 @@
--- Counts of bytes and of words.
+-- Counts of bytes and of words, which are types of their own: `units.apart`.
 use Prim.Native.Nat.{ℕ, _+_, _/_}
 use Rattle.ring.specs.declared.Bytes.{Bytes}
 use Rattle.ring.specs.declared.Words.{Words}
@@ -6,7 +6,7 @@ use Rattle.ring.specs.declared.Words.{Words}
 abbrev pub words : ℕ → Words
 words n = record { 0 = n }
 
--- the words that hold b bytes: the quotient by four, rounded up
+-- `units.apart`: the words that hold b bytes
 abbrev pub wordsFor : Bytes → Words
 wordsFor b = words ((b .0 + 3) / 4)
 

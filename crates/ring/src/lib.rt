@@ -1,18 +1,18 @@
-// Counts in two units, and a ring of 32-bit words in an area of a lent store: a layer, no interface. The calls above
-// it test what it asks of its caller.
+// Counts of bytes and of words, and a ring of 32-bit words in an area of a lent store, for any capacity from 1 on. It
+// knows places and a store, and not what a queue is for. A layer: the calls above it test what it asks of its caller.
 ghost use mathlib.Core.Path.{_≡_};
 ghost use Prim.Native.Nat.{_+_, _<_, _≤_};
 ghost use lib.ListN.{length, getD, set};
 ghost use Rattle.ring.specs.Units.{wordsFor};
 ghost use Rattle.ring.specs.Ring.{Valid, placeOf, pushedOf, takenOf, clearedOf, entries};
 
-// A number of payload bytes: 01, "Payload lengths count bytes".
+// A number of payload bytes (`units.apart`).
 pub struct Bytes(pub u32);
 
-// A number of queue words: 01, "queue levels count words".
+// A number of words in a queue (`units.apart`).
 pub struct Words(pub u32);
 
-// The words that hold `b` bytes: the quotient by four, rounded up.
+// The words that hold `b` bytes.
 pub fn words_for(b: Bytes) -> Words
     ensures { λ r. ⌜ r ≡ wordsFor b ⌝ }
 {
@@ -26,8 +26,8 @@ pub struct Ring {
     pub level: Words,
 }
 
-// The place `i` after the head, without a division. What is left before the wrap is compared, and not the sum, which a
-// large capacity could carry past its type.
+// The place `i` behind the head, without a division. `i` is compared with what is left before the end of the area: the
+// sum could leave its type.
 pub fn place(r: Ring, i: u32) -> u32
     requires { ⌜ (Valid r) × (i ≤ r .cap .0) ⌝ }
     ensures { λ p. ⌜ (p ≡ placeOf r i) × (p < r .cap .0) ⌝ }
@@ -37,7 +37,7 @@ pub fn place(r: Ring, i: u32) -> u32
 }
 
 // A ring with another head and another level, put together field by field: fields that are copied in one piece stay in
-// memory through a list of calls, stored apart and loaded together, which stalls.
+// memory through a list of calls, stored one by one and loaded together, which stalls.
 pub fn moved(r: Ring, head: u32, level: u32) -> Ring
     ensures { λ p. ⌜ p ≡ record { cap = r .cap; head = head; level = record { 0 = level } } ⌝ }
 {
@@ -48,7 +48,7 @@ pub fn moved(r: Ring, head: u32, level: u32) -> Ring
     }
 }
 
-// The ring with one entry more, behind the last.
+// The ring with one entry more, behind the last (`ring.push`).
 pub fn push(r: Ring, base: usize, store: &mut [u32], w: u32) -> Ring
     requires { ⌜ (Valid r) × (r .level .0 < r .cap .0) × (base + r .cap .0 ≤ length (now store)) ⌝ }
     ensures { λ p. ⌜ (p ≡ pushedOf r) × (now (store .exit) ≡ set (now (store .entry)) (base + placeOf r (r .level .0)) w) ⌝ }
@@ -72,7 +72,7 @@ pub fn look(r: Ring, base: usize, store: &[u32], i: u32) -> u32
     }
 }
 
-// The ring without its first `n` entries.
+// The ring without its first `n` entries (`ring.take`).
 pub fn take(r: Ring, n: Words) -> Ring
     requires { ⌜ (Valid r) × (n .0 ≤ r .level .0) ⌝ }
     ensures { λ p. ⌜ p ≡ takenOf r (n .0) ⌝ }
@@ -82,7 +82,7 @@ pub fn take(r: Ring, n: Words) -> Ring
     moved(r, head, level)
 }
 
-// The ring with no entry, its head at the first place.
+// The ring with no entry, its head at the first place (`ring.clear`).
 pub fn clear(r: Ring) -> Ring
     ensures { λ p. ⌜ p ≡ clearedOf r ⌝ }
 {

@@ -1,4 +1,4 @@
--- The first words of the queues, in rings.
+-- The first two words of each queue of the ring engine, as decisions ask for them.
 use Prim.Native.Nat.{ℕ}
 use mathlib.Core.List.{List}
 use lib.ListN.{getD}

@@ -1,4 +1,5 @@
-// What the rings of a bank show: the first words of its queues, each in its area of the lent store.
+// What the rings of a bank show: where the area of each queue begins in the lent store (`store.order`), and the first
+// words of the queues. Of calls it knows only which register takes from which queue.
 ghost use mathlib.Core.Path.{_≡_};
 ghost use Prim.Native.Nat.{_+_};
 ghost use lib.ListN.{getD};
@@ -14,7 +15,7 @@ use registers::Register;
 use ring::Ring;
 use ring::Words;
 
-// One ring of its three numbers.
+// The ring of three numbers.
 pub fn ring_of(cap: Words, head: u32, level: Words) -> Ring
     ensures { λ r. ⌜ r ≡ ring cap head level ⌝ }
 {
@@ -32,7 +33,7 @@ fn sum_of_four(a: u32, b: u32, c: u32, d: u32) -> usize
     a as usize + b as usize + c as usize + d as usize
 }
 
-// Where the area of a queue begins in the store.
+// Where the area of a queue begins in the store (`store.order`); that of CMD is at 0.
 pub fn cmdr_at(k: Counts) -> usize
     ensures { λ a. ⌜ a ≡ cmdrAt k ⌝ }
 {
@@ -57,7 +58,7 @@ pub fn ibi_at(k: Counts) -> usize
     sum_of_four(k.cmd.0, k.cmdr.0, k.sdo.0, k.sdi.0)
 }
 
-// A word of CMD, counted from its first, or 0.
+// The word of CMD that lies `i` behind its first, or 0 where there is none.
 pub fn cmd_word(k: Counts, l: Counts, h: Heads, store: &[u32], i: u32) -> u32
     requires { ⌜ Ready (queuesOf k l h) (now store) ⌝ }
     ensures { λ w. ⌜ w ≡ getD (wordsIn (areas (queuesOf k l h) .cmd) (now (store .entry))) i 0 ⌝ }
@@ -97,7 +98,7 @@ pub fn ibi_first(k: Counts, l: Counts, h: Heads, store: &[u32]) -> u32
     ring::look(ring_of(k.ibi, h.ibi, l.ibi), base, store, 0)
 }
 
-// The word that a read of a register takes, 0 where it takes none.
+// The word that a read of a register takes (`take.read`), 0 where it takes none.
 pub fn taken_word(r: Register, k: Counts, l: Counts, h: Heads, store: &[u32]) -> u32
     requires { ⌜ Ready (queuesOf k l h) (now store) ⌝ }
     ensures { λ w. ⌜ w ≡ takenBy (row r) (fronts (queuesOf k l h) (now (store .entry))) ⌝ }

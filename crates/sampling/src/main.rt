@@ -1,8 +1,6 @@
-// Samples a sensor by offload bursts, as a user of the controller would: set-up, three reads in the offload memory, then
-// a thousand triggers. Each burst reads three channels of two bytes, and each gives one line of a CSV table. The program
-// plays the sensor too, by made-up waves: a ramp, a triangle, and a square wave whose every hundredth read is not
-// acknowledged and gives 0. The last line says whether every answer had the number 0; a burst with another number ends
-// the table, without its line.
+// A program that samples a sensor by offload bursts, on the interface: a thousand bursts of three reads of two bytes,
+// one line of a CSV table for each. It is the sensor too, with made-up waves. The last line says whether every answer
+// had the number 0.
 ghost use Prim.Native.Nat.{_+_, _≤_};
 ghost use lib.ListN.{length};
 use bank::Bank;
@@ -30,7 +28,7 @@ const READ: u32 = 0x211;
 // Offload mode, three commands.
 const MODE: u32 = 0x07;
 
-// The code of a transfer that the device did not acknowledge.
+// The code of a transfer that the device did not acknowledge (`receipt.codes`).
 const REFUSED: u8 = 6;
 
 const SAMPLES: u32 = 1000;
@@ -74,6 +72,7 @@ fn ready() -> Board {
     run(board, Call::Write(OPS, MODE))
 }
 
+// The three waves, by the number of the sample.
 fn ramp(sample: u32) -> u32 {
     sample % 1024 * 64
 }
@@ -97,7 +96,7 @@ fn reply(board: Board, value: u32) -> Board {
     run(low, Call::Finish(0))
 }
 
-// One burst.
+// One burst. Every hundredth read of the square wave is not acknowledged, and gives 0.
 fn burst(board: Board, sample: u32) -> Board {
     let mut next = run(board, Call::Trigger);
     next = reply(next, ramp(sample));
@@ -151,6 +150,7 @@ fn turned(page: &[u8], at: usize) -> usize
     0
 }
 
+// A burst with an answer that is not 0 ends the table, without its line.
 fn main() {
     let mut page = io::buffer();
     let mut at = 0;

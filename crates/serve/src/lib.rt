@@ -1,5 +1,6 @@
-// Any call on a state, its heads and its lent tables: decided, then settled. A layer beneath the interface, which replays
-// use too: no call changes what the two tests of bank and store say, so a list of calls makes them once.
+// Any call on a state, its heads and its lent tables: decided, then settled. A layer beneath the interface and beneath
+// replays. It is given the number of the two tests: no call changes what they say (`formed.kept`), so a list of calls
+// makes them once.
 ghost use mathlib.Core.Path.{_≡_};
 ghost use lib.ListN.{length};
 ghost use Rattle.model.specs.View.{tables};
@@ -13,7 +14,7 @@ use bank::Heads;
 use bank::State;
 use model::Call;
 
-// Past the two tests.
+// A call on a bank and a store that passed the two tests.
 fn serve(
     st: State,
     h: Heads,
@@ -31,7 +32,7 @@ fn serve(
     settle::settle(st, h, flags, commands, payloads, store, output, e)
 }
 
-// Where the number of the two tests is known.
+// A call behind the two tests, whose number is given.
 pub fn step_parts(
     st: State,
     h: Heads,

@@ -1,6 +1,6 @@
-// 01's session: lines from standard input, the answers of the calls that they name to standard output. It reads and
-// writes in pieces, and holds no line. Every call is lent an empty output: no letter names the trigger. Where input or
-// output fails it, it says so on standard error.
+// The program `session` (`session.lines`, `session.answers`): lines from standard input, the answers of the calls that
+// they name to standard output, on the session's bank. It reads and writes in pieces, holds no line, and lends every
+// call an empty output (`burst.replay`). Where input or output fails, it says so on standard error (`program.failure`).
 ghost use Prim.Native.Nat.{_≤_};
 ghost use lib.ListN.{length};
 use bank::Bank;
@@ -8,7 +8,7 @@ use lines::Reading;
 
 // The bank and the line so far; how many answers were written; whether there may be more to read; whether the input
 // could be read, and all output be written.
-struct Went {
+struct Turn {
     bank: Bank,
     line: Reading,
     answers: u64,
@@ -33,13 +33,13 @@ fn output_failed(answers: u64) {
 }
 
 // The next piece of the input.
-fn turn(b: Bank, line: Reading, store: &mut [u32], out: &mut [u8], answers: u64) -> Went
+fn turn(b: Bank, line: Reading, store: &mut [u32], out: &mut [u8], answers: u64) -> Turn
     requires { ⌜ 49152 ≤ length (now out) ⌝ }
 {
     let mut piece = [0u8; 4096];
     let got = libc::read(0, &mut piece);
     if got <= 0 {
-        return Went {
+        return Turn {
             bank: b,
             line: line,
             answers: answers,
@@ -55,7 +55,7 @@ fn turn(b: Bank, line: Reading, store: &mut [u32], out: &mut [u8], answers: u64)
     let sent = notice::write_counted(1, &out[..m]);
     let next = f.bank;
     let rest = f.line;
-    Went {
+    Turn {
         bank: next,
         line: rest,
         answers: notice::counted(answers, sent),
@@ -65,7 +65,7 @@ fn turn(b: Bank, line: Reading, store: &mut [u32], out: &mut [u8], answers: u64)
     }
 }
 
-// The end of the input ends the last line: whether all output was written.
+// The end of the input closes the last line: whether all output was written.
 fn end(b: Bank, line: Reading, store: &mut [u32], out: &mut [u8]) -> bool
     requires { ⌜ 12 ≤ length (now out) ⌝ }
 {
@@ -100,7 +100,7 @@ fn main() {
         written = t.written;
     }
     if !readable {
-        // The line at hand has not ended, so it is no call.
+        // A line that is cut here was closed neither by a newline nor by the end of the input, so it is no call.
         input_failed(answers);
         return;
     }

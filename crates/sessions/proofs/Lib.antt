@@ -1,2 +1,3 @@
 pub mod Cutting
 pub mod Worked
+pub mod ByLines

@@ -1,7 +1,8 @@
--- A session of 01: bytes come in, lines are told apart, calls made, answers printed.
+-- A session, 01, 'A session': bytes come in, lines are told apart, calls made, answers printed.
 use Prim.Native.Nat.{ℕ}
+use mathlib.Core.Path.{_≡_}
 use mathlib.Core.Bool.{cond}
-use mathlib.Core.List.{List, [], _++_, foldl}
+use mathlib.Core.List.{List, [], _∷_, _++_, foldl}
 use lib.Dec.{eqb}
 use lib.ListN.{take}
 use Rattle.bank.specs.declared.Answer.{Answer}
@@ -12,30 +13,31 @@ use Rattle.print.specs.Line.{lineOf}
 use Rattle.lines.specs.declared.Reading.{Reading}
 use Rattle.sessions.specs.declared.Ran.{Ran}
 use Rattle.sessions.specs.declared.Ended.{Ended}
-use Rattle.sessions.specs.declared.Fed.{Fed}
+use Rattle.sessions.specs.declared.SessionTurn.{SessionTurn}
 use Rattle.letters.specs.declared.Parsed.{Parsed}
 use Rattle.letters.specs.declared.Parsed.the-variants.{Named, Skipped}
-use Rattle.lines.specs.Lines.{fresh, eatOf, callOf}
+use Rattle.lines.specs.Lines.{before, behind, lineNames}
+use Rattle.lines.specs.Automaton.{unread, eatOf, callRead}
 
 -- a bank with its store and output, and what was printed
-pub record Told : Type 0 where
+pub record Printed : Type 0 where
   pub controller : Controller
   pub text : List ℕ
 
-abbrev pub told : Controller → List ℕ → Told
-told l t = record { controller = l; text = t }
+abbrev pub withText : Controller → List ℕ → Printed
+withText l t = record { controller = l; text = t }
 
 abbrev pub answerLine : Answer → List ℕ
 answerLine a = lineOf (a .value) (a .number)
 
--- a call is made and its answer printed; "other lines are skipped"
-abbrev pub ranOf : Controller → Parsed → Told
-ranOf l Skipped = told l []
-ranOf l (Named c) = let s = step rings l c in told (s .next) (answerLine (s .answer))
+-- `session.answers`: the call of a line is made and its answer printed; a line that names none is skipped (`session.lines`)
+abbrev pub ranOf : Controller → Parsed → Printed
+ranOf l Skipped = withText l []
+ranOf l (Named c) = let s = step rings l c in withText (s .next) (answerLine (s .answer))
 
 -- what `run` gives
-abbrev pub ranTold : Ran → List ℕ → List ℕ → Told
-ranTold r s o = told (controller (r .bank) s o) (cond (r .said) (r .text) [])
+abbrev pub ranTold : Ran → List ℕ → List ℕ → Printed
+ranTold r s o = withText (controller (r .bank) s o) (cond (r .said) (r .text) [])
 
 -- a session between two bytes: bank, store and output, the line so far, what was printed
 pub record Session : Type 0 where
@@ -48,22 +50,36 @@ session l r t = record { controller = l; line = r; text = t }
 
 -- what `end_line` and `feed` give
 abbrev pub endedSession : Ended → List ℕ → List ℕ → List ℕ → Session
-endedSession r s o out = session (controller (r .bank) s o) fresh (take (r .count) out)
+endedSession r s o out = session (controller (r .bank) s o) unread (take (r .count) out)
 
-abbrev pub fedSession : Fed → List ℕ → List ℕ → List ℕ → Session
+abbrev pub fedSession : SessionTurn → List ℕ → List ℕ → List ℕ → Session
 fedSession r s o out = session (controller (r .bank) s o) (r .line) (take (r .count) out)
 
--- the end of a line
+-- a line ends: its call is made, and a new line begins
 abbrev pub lineEnd : Session → Session
-lineEnd s = let t = ranOf (s .controller) (callOf (s .line)) in session (t .controller) fresh (s .text ++ t .text)
+lineEnd s = let t = ranOf (s .controller) (callRead (s .line)) in session (t .controller) unread (s .text ++ t .text)
 
--- "a line ends at a newline or the end of the input"
+-- `session.lines`: a newline closes a line; the end of the input does so in `printed`
 abbrev pub fedByte : Session → ℕ → Session
 fedByte s b = cond (eqb b 0x0a) (lineEnd s) (session (s .controller) (eatOf (s .line) b) (s .text))
 
-unfoldable pub fed : Session → List ℕ → Session
-fed = foldl fedByte
+-- the bytes of a piece, one after another (`session.pieces`)
+unfoldable pub sessionFed : Session → List ℕ → Session
+sessionFed = foldl fedByte
 
 -- what a session prints on a whole input
 abbrev pub printed : Controller → List ℕ → List ℕ
-printed l bytes = lineEnd (fed (session l fresh []) bytes) .text
+printed l bytes = lineEnd (sessionFed (session l unread []) bytes) .text
+
+-- ── By lines ──────────────────────────────────────────────────────────────────────────────────────────────────
+-- the lines of an input: before its first newline, and behind each
+abbrev pub linesOf : List ℕ → List (List ℕ)
+linesOf bytes = before 0x0a bytes ∷ behind 0x0a bytes
+
+-- the call that a line names is made, and its answer printed behind what is printed
+abbrev pub afterLine : Printed → List ℕ → Printed
+afterLine t line = let y = ranOf (t .controller) (lineNames line) in withText (y .controller) (t .text ++ y .text)
+
+-- a session prints what its lines print, one after another, each read by the grammar (`session.lines`); an empty rest behind the last newline names no call
+unfoldable pub EachLineIsRead : Type 0
+EachLineIsRead = (l : Controller) (bytes : List ℕ) → printed l bytes ≡ foldl afterLine (withText l []) (linesOf bytes) .text

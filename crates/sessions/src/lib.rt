@@ -1,13 +1,14 @@
-// A session of 01: bytes in pieces of any length, the lines in them, the calls that these name, and the answers as text.
-// `output` is the output of words that is lent to every call, `out` takes the text.
+// A session (`session.lines`, `session.answers`): bytes in pieces of any length, the lines in them, the calls that
+// these name, and the answers as text. It knows no file and no program. `output` is what is lent to every call, `out`
+// takes the text.
 ghost use mathlib.Core.Path.{_≡_};
 ghost use mathlib.Core.List.{List, []};
 ghost use Prim.Native.Nat.{ℕ, _+_, _*_, _≤_};
 ghost use lib.ListN.{length, take};
 ghost use Rattle.answer.specs.Given.{controller};
 ghost use Rattle.letters.specs.declared.Parsed.the-variants.{Named, Skipped};
-ghost use Rattle.lines.specs.Lines.{callOf};
-ghost use Rattle.sessions.specs.Session.{ranOf, ranTold, endedSession, fedSession, session, lineEnd, fed};
+ghost use Rattle.lines.specs.Automaton.{callRead};
+ghost use Rattle.sessions.specs.Session.{ranOf, ranTold, endedSession, fedSession, session, lineEnd, sessionFed};
 use bank::Bank;
 use letters::Parsed;
 use lines::Reading;
@@ -34,7 +35,7 @@ fn serve(b: Bank, store: &mut [u32], output: &mut [u32], c: Call) -> Ran
     }
 }
 
-// No call: the bank as it was, nothing printed.
+// A line that names no call: the bank as it was, nothing printed.
 fn silent(b: Bank) -> Ran
     ensures { λ r. ⌜ ((s o : List ℕ) → ranTold r s o ≡ ranOf (controller b s o) Skipped) ⌝ }
 {
@@ -47,7 +48,7 @@ fn silent(b: Bank) -> Ran
 
 // The end of a line: the call that it names is made, and its answer printed.
 pub fn run(b: Bank, store: &mut [u32], output: &mut [u32], line: Reading) -> Ran
-    ensures { λ r. ⌜ ranTold r (now (store .exit)) (now (output .exit)) ≡ ranOf (controller b (now (store .entry)) (now (output .entry))) (callOf line) ⌝ }
+    ensures { λ r. ⌜ ranTold r (now (store .exit)) (now (output .exit)) ≡ ranOf (controller b (now (store .entry)) (now (output .entry))) (callRead line) ⌝ }
 {
     match lines::named(line) {
         Parsed::Named(c) => serve(b, store, output, c),
@@ -61,7 +62,7 @@ pub struct Ended {
     pub count: usize,
 }
 
-// A line ends, at a newline or at the end of the input: a layer, no interface.
+// A line is closed, by a newline or by the end of the input (`session.lines`): a layer, no interface.
 pub fn end_line(
     b: Bank,
     store: &mut [u32],
@@ -91,7 +92,7 @@ pub fn end_line(
 }
 
 // The bank and the line so far after a piece of the input, and how many bytes of the text are filled.
-pub struct Fed {
+pub struct SessionTurn {
     pub bank: Bank,
     pub line: Reading,
     pub count: usize,
@@ -105,9 +106,9 @@ pub fn feed(
     line: Reading,
     piece: &[u8],
     out: &mut [u8],
-) -> Fed
+) -> SessionTurn
     requires { ⌜ 12 * length (now piece) ≤ length (now out) ⌝ }
-    ensures { λ r. ⌜ (fedSession r (now (store .exit)) (now (output .exit)) (now (out .exit)) ≡ fed (session (controller b (now (store .entry)) (now (output .entry))) line []) (now (piece .entry))) × (r .count ≤ length (now (out .exit))) ⌝ }
+    ensures { λ r. ⌜ (fedSession r (now (store .exit)) (now (output .exit)) (now (out .exit)) ≡ sessionFed (session (controller b (now (store .entry)) (now (output .entry))) line []) (now (piece .entry))) × (r .count ≤ length (now (out .exit))) ⌝ }
 {
     let mut bank = b;
     let mut reading = line;
@@ -123,7 +124,7 @@ pub fn feed(
         count = e.count;
         reading = lines::begin();
     }
-    Fed {
+    SessionTurn {
         bank: bank,
         line: reading,
         count: count,

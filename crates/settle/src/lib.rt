@@ -1,171 +1,19 @@
-// What an effect does to rings in a lent store and to lent tables: once for every call.
+// An effect settled in rings in a lent store and in lent tables, once for every call. It knows effects, and not which
+// call gave one.
 ghost use mathlib.Core.Path.{_≡_};
-ghost use Prim.Native.Nat.{_+_, _≤_};
-ghost use lib.ListN.{length, set};
-ghost use Rattle.ring.specs.Ring.{Valid};
 ghost use Rattle.bank.specs.Queues.{queuesOf};
 ghost use Rattle.bank.specs.Ready.{Ready};
 ghost use Rattle.model.specs.View.{tables};
-ghost use Rattle.model.specs.Decision.{push2};
-ghost use Rattle.model.specs.Rings.{area, areas, onRing, onStore, onRings, onStores, viewQueues};
-ghost use Rattle.model.specs.Fits.{Fits, AllFit};
+ghost use Rattle.model.specs.Rings.{viewQueues};
+ghost use Rattle.model.specs.Fits.{AllFit};
 ghost use Rattle.answer.specs.Given.{given, served};
-ghost use Rattle.effect.specs.Effects.{opOf, fiveOf, opsOf, tablesBy, effectOf};
-ghost use Rattle.settle.specs.Moved.{movedTo};
+ghost use Rattle.effect.specs.Effects.{opsOf, effectOf};
 use answer::Next;
-use bank::Counts;
 use bank::Heads;
 use bank::State;
 use effect::Effect;
-use effect::Op;
-use effect::Ops;
-use effect::Table;
-use ring::Ring;
-use ring::Words;
 
-// Levels and heads, after all five.
-struct Moved {
-    levels: Counts,
-    heads: Heads,
-}
-
-fn push_two(r: Ring, base: usize, store: &mut [u32], v: u32, w: u32) -> Ring
-    requires { ⌜ (Valid r) × (r .level .0 + 2 ≤ r .cap .0) × (base + r .cap .0 ≤ length (now store)) ⌝ }
-    ensures { λ p. ⌜ (p ≡ onRing (push2 v w) r) × (now (store .exit) ≡ onStore (push2 v w) (area r base) (now (store .entry))) ⌝ }
-{
-    let one = ring::push(r, base, store, v);
-    ring::push(one, base, store, w)
-}
-
-// One operation on one queue.
-fn apply(o: Op, r: Ring, base: usize, store: &mut [u32]) -> Ring
-    requires { ⌜ (Valid r) × (Fits (opOf o) (r .cap .0) (r .level .0)) × (base + r .cap .0 ≤ length (now store)) ⌝ }
-    ensures { λ p. ⌜ (p ≡ onRing (opOf o) r) × (now (store .exit) ≡ onStore (opOf o) (area r base) (now (store .entry))) × (length (now (store .exit)) ≡ length (now (store .entry))) ⌝ }
-{
-    match o {
-        Op::Keep => ring::moved(r, r.head, r.level.0),
-        Op::Clear => ring::clear(r),
-        Op::Take(k) => ring::take(r, Words(k)),
-        Op::Push(w) => ring::push(r, base, store, w),
-        Op::Push2(v, w) => push_two(r, base, store, v, w),
-    }
-}
-
-fn gather(cmd: Ring, cmdr: Ring, sdo: Ring, sdi: Ring, ibi: Ring) -> Moved
-    ensures { λ m. ⌜ m ≡ movedTo (record { cmd = cmd; cmdr = cmdr; sdo = sdo; sdi = sdi; ibi = ibi }) ⌝ }
-{
-    let levels = Counts {
-        cmd: Words(cmd.level.0),
-        cmdr: Words(cmdr.level.0),
-        sdo: Words(sdo.level.0),
-        sdi: Words(sdi.level.0),
-        ibi: Words(ibi.level.0),
-    };
-    let heads = Heads {
-        cmd: cmd.head,
-        cmdr: cmdr.head,
-        sdo: sdo.head,
-        sdi: sdi.head,
-        ibi: ibi.head,
-    };
-    Moved {
-        levels: levels,
-        heads: heads,
-    }
-}
-
-// All five.
-fn move_all(o: Ops, k: Counts, l: Counts, h: Heads, store: &mut [u32]) -> Moved
-    requires { ⌜ (Ready (queuesOf k l h) (now store)) × (AllFit (fiveOf o) (viewQueues (queuesOf k l h) (now store))) ⌝ }
-    ensures { λ m. ⌜ (m ≡ movedTo (onRings (fiveOf o) (queuesOf k l h))) × (now (store .exit) ≡ onStores (fiveOf o) (areas (queuesOf k l h)) (now (store .entry))) ⌝ }
-{
-    let a = o.cmd;
-    let b = o.cmdr;
-    let c = o.sdo;
-    let d = o.sdi;
-    let e = o.ibi;
-    let cmd = apply(a, rings::ring_of(k.cmd, h.cmd, l.cmd), 0, store);
-    let cmdr = apply(
-        b,
-        rings::ring_of(k.cmdr, h.cmdr, l.cmdr),
-        rings::cmdr_at(k),
-        store,
-    );
-    let sdo = apply(
-        c,
-        rings::ring_of(k.sdo, h.sdo, l.sdo),
-        rings::sdo_at(k),
-        store,
-    );
-    let sdi = apply(
-        d,
-        rings::ring_of(k.sdi, h.sdi, l.sdi),
-        rings::sdi_at(k),
-        store,
-    );
-    let ibi = apply(
-        e,
-        rings::ring_of(k.ibi, h.ibi, l.ibi),
-        rings::ibi_at(k),
-        store,
-    );
-    gather(cmd, cmdr, sdo, sdi, ibi)
-}
-
-// All five, where any is touched.
-fn move_any(o: Ops, k: Counts, l: Counts, h: Heads, store: &mut [u32]) -> Moved
-    requires { ⌜ (Ready (queuesOf k l h) (now store)) × (AllFit (opsOf o) (viewQueues (queuesOf k l h) (now store))) ⌝ }
-    ensures { λ m. ⌜ (m ≡ movedTo (onRings (opsOf o) (queuesOf k l h))) × (now (store .exit) ≡ onStores (opsOf o) (areas (queuesOf k l h)) (now (store .entry))) ⌝ }
-{
-    if o.any {
-        return move_all(o, k, l, h, store);
-    }
-    let cmd = rings::ring_of(k.cmd, h.cmd, l.cmd);
-    let cmdr = rings::ring_of(k.cmdr, h.cmdr, l.cmdr);
-    let sdo = rings::ring_of(k.sdo, h.sdo, l.sdo);
-    let sdi = rings::ring_of(k.sdi, h.sdi, l.sdi);
-    let ibi = rings::ring_of(k.ibi, h.ibi, l.ibi);
-    gather(cmd, cmdr, sdo, sdi, ibi)
-}
-
-// One entry of a table. A place past the end stores nothing, so no caller has to bound it.
-fn put_flags(flags: &mut [u8], i: u32, v: u8)
-    ensures { λ _. ⌜ now (flags .exit) ≡ set (now (flags .entry)) i v ⌝ }
-{
-    let at = i as usize;
-    if at < flags.len() {
-        flags[at] = v;
-    }
-}
-
-fn put_word(words: &mut [u32], i: u32, v: u32)
-    ensures { λ _. ⌜ now (words .exit) ≡ set (now (words .entry)) i v ⌝ }
-{
-    let at = i as usize;
-    if at < words.len() {
-        words[at] = v;
-    }
-}
-
-fn put_table(
-    t: Table,
-    flags: &mut [u8; 128],
-    commands: &mut [u32; 16],
-    payloads: &mut [u32; 16],
-    output: &mut [u32],
-)
-    ensures { λ _. ⌜ tables (now (flags .exit)) (now (commands .exit)) (now (payloads .exit)) (now (output .exit)) ≡ tablesBy t (tables (now (flags .entry)) (now (commands .entry)) (now (payloads .entry)) (now (output .entry))) ⌝ }
-{
-    match t {
-        Table::Same => {}
-        Table::Flags(i, v) => put_flags(flags, i, v),
-        Table::Command(i, v) => put_word(commands, i, v),
-        Table::Payload(i, v) => put_word(payloads, i, v),
-        Table::Output(i, v) => put_word(output, i, v),
-    }
-}
-
-// The effect, settled.
+// An effect settled: queues moved, table entry stored, and the state and heads after it.
 pub fn settle(
     st: State,
     h: Heads,
@@ -180,9 +28,9 @@ pub fn settle(
     ensures { λ y. ⌜ given y (tables (now (flags .exit)) (now (commands .exit)) (now (payloads .exit)) (now (output .exit))) (now (store .exit)) ≡ (let t = tables (now (flags .entry)) (now (commands .entry)) (now (payloads .entry)) (now (output .entry)) in served st h t (now (store .entry)) (effectOf e t)) ⌝ }
 {
     let t = e.table;
-    put_table(t, flags, commands, payloads, output);
+    table_entries::put_table(t, flags, commands, payloads, output);
     let o = e.ops;
-    let m = move_any(o, st.caps, st.levels, h, store);
+    let m = ring_moves::move_any(o, st.caps, st.levels, h, store);
     let s = e.state;
     let g = s.regs;
     let c = s.control;

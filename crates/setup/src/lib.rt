@@ -1,6 +1,7 @@
-// Set-up: the bank that five capacities, five watermarks and an ID give.
+// Set-up (`set-up.numbers`, `set-up.fresh`, `set-up.refused`): the bank and the answer for five capacities, five
+// watermarks and an ID; the bank of a session. It knows no call.
 ghost use mathlib.Core.Path.{_≡_};
-ghost use Rattle.bank.specs.SetUp.{countsOf, sizesOk, zeros, noHeads, bankOf, refused, setUp};
+ghost use Rattle.bank.specs.SetUp.{countsOf, sizesOk, zeros, noHeads, bankOf, refusedSetUp, setUp};
 use bank::Answer;
 use bank::Bank;
 use bank::Counts;
@@ -25,6 +26,7 @@ fn counts_of(s: Sizes) -> Counts
     }
 }
 
+// Whether capacities and watermarks are in range (`set-up.numbers`).
 fn sizes_ok(caps: Sizes, marks: Sizes) -> bool
     ensures { λ b. ⌜ b ≡ sizesOk caps marks ⌝ }
 {
@@ -60,6 +62,7 @@ fn no_heads() -> Heads
     }
 }
 
+// A bank in reset with these numbers, and 0 elsewhere (`set-up.fresh`).
 fn fresh_bank(caps: Sizes, marks: Sizes, held: bool, id: u8) -> Bank
     ensures { λ r. ⌜ r ≡ bankOf caps marks held id ⌝ }
 {
@@ -93,19 +96,20 @@ fn fresh_bank(caps: Sizes, marks: Sizes, held: bool, id: u8) -> Bank
     }
 }
 
+// What a refused set-up gives (`set-up.refused`).
 fn refused_set_up() -> SetUp
-    ensures { λ r. ⌜ r ≡ refused ⌝ }
+    ensures { λ r. ⌜ r ≡ refusedSetUp ⌝ }
 {
     let none = no_sizes();
     let b = fresh_bank(none, none, false, 0);
     let a = Answer {
         value: 0,
-        number: 23,
+        number: number::SET_UP_OUT_OF_RANGE,
     };
     SetUp { bank: b, answer: a }
 }
 
-// A bank held in reset, with number 0; where a number is out of range, a bank of zeros, with number 23.
+// A bank in reset with number 0; a bank of zeros with 23 where a number is out of range.
 pub fn set_up(caps: Sizes, marks: Sizes, id: u32) -> SetUp
     ensures { λ r. ⌜ r ≡ setUp caps marks id ⌝ }
 {
@@ -123,7 +127,7 @@ pub fn set_up(caps: Sizes, marks: Sizes, id: u32) -> SetUp
     refused_set_up()
 }
 
-// The bank of 01's session: "every capacity 4, almost-empty watermarks 1, almost-full 3, ID 0".
+// The bank of a session, as `session.bank` has it.
 pub fn session_bank() -> Bank
     ensures { λ b. ⌜ b ≡ setUp (record { cmd = 4; cmdr = 4; sdo = 4; sdi = 4; ibi = 4 }) (record { cmd = 1; cmdr = 3; sdo = 1; sdi = 3; ibi = 3 }) 0 .bank ⌝ }
 {

@@ -15,7 +15,7 @@ use Rattle.start.specs.Word.{commandOf}
 use Rattle.start.proofs.Words.{first-word}
 
 module _ (v : View) where
-  -- what a start of the command at hand does, its first word told by y
+  -- what a start of the first command does, its first word told by y
   abbrev by : ℕ → Effect
   by y =
       let w = v .queues .cmd .first in

@@ -1,4 +1,4 @@
--- What the words of a command say.
+-- What the words of a command say, by the number of words as code has it.
 use Prim.Native.Nat.{ℕ, _/_, _%_}
 use mathlib.Core.Path.{_≡_, refl}
 use mathlib.Core.Bool.{Bool, true, false, cond, not, _&&_, false≢true}

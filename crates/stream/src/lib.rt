@@ -1,26 +1,26 @@
-// Replay of a trace that comes in pieces, 02 §1: bytes in, a line for each record out. `out` takes the text; its bytes past
-// the text are left free.
+// Replay of a trace that comes in pieces (`replay.program`): bytes in, a line for each record out. It knows pieces and
+// what is still to come, and no program. `out` takes the text; its bytes past the text are left free.
 ghost use mathlib.Core.Path.{_≡_};
 ghost use mathlib.Core.List.{[]};
 ghost use Prim.Native.Nat.{_+_, _≤_, _<_};
 ghost use lib.ListN.{length};
 ghost use Rattle.answer.specs.Given.{controller};
 ghost use Rattle.trace_model.specs.Head.{headOf};
-ghost use Rattle.stream_model.specs.Stream.{openedBy, fed};
+ghost use Rattle.stream_model.specs.Stream.{openedBy, streamFed};
 ghost use Rattle.stream_end.specs.Given.{fedBy};
 use bank::Bank;
-use stream_end::Fed;
+use stream_end::StreamTurn;
 use stream_model::Stage;
 use trace_model::Head;
 
 // The first piece: a layer, no interface.
-fn open(b: Bank, store: &mut [u32], bytes: &[u8], out: &mut [u8]) -> Fed
+fn open(b: Bank, store: &mut [u32], bytes: &[u8], out: &mut [u8]) -> StreamTurn
     requires { ⌜ length (now bytes) + 12 ≤ length (now out) ⌝ }
     ensures { λ r. ⌜ (fedBy r (now (store .exit)) (now (out .exit)) ≡ openedBy (controller b (now (store .entry)) []) (now (bytes .entry)) (headOf (now (bytes .entry)))) × (r .count ≤ length (now (out .exit))) × (r .used ≤ length (now (bytes .entry))) × (length (now (bytes .entry)) < r .used + 518) ⌝ }
 {
     match trace::read_head(bytes) {
         Head::More => {
-            return Fed {
+            return StreamTurn {
                 bank: b,
                 stage: Stage::Opening,
                 used: 0,
@@ -34,7 +34,7 @@ fn open(b: Bank, store: &mut [u32], bytes: &[u8], out: &mut [u8]) -> Fed
             let f = stream_records::feed_records(b, store, records, &bytes[len..], out);
             let next = f.bank;
             let stage = f.stage;
-            Fed {
+            StreamTurn {
                 bank: next,
                 stage: stage,
                 used: len + f.used,
@@ -46,14 +46,14 @@ fn open(b: Bank, store: &mut [u32], bytes: &[u8], out: &mut [u8]) -> Fed
 
 // A piece of the input, behind the bytes of the last piece that were not used: a layer, no interface. The text has room
 // for a line for each record, and one more; less than 518 bytes are left.
-pub fn feed(b: Bank, store: &mut [u32], stage: Stage, bytes: &[u8], out: &mut [u8]) -> Fed
+pub fn feed(b: Bank, store: &mut [u32], stage: Stage, bytes: &[u8], out: &mut [u8]) -> StreamTurn
     requires { ⌜ length (now bytes) + 12 ≤ length (now out) ⌝ }
-    ensures { λ r. ⌜ (fedBy r (now (store .exit)) (now (out .exit)) ≡ fed (controller b (now (store .entry)) []) stage (now (bytes .entry))) × (r .count ≤ length (now (out .exit))) × (r .used ≤ length (now (bytes .entry))) × (length (now (bytes .entry)) < r .used + 518) ⌝ }
+    ensures { λ r. ⌜ (fedBy r (now (store .exit)) (now (out .exit)) ≡ streamFed (controller b (now (store .entry)) []) stage (now (bytes .entry))) × (r .count ≤ length (now (out .exit))) × (r .used ≤ length (now (bytes .entry))) × (length (now (bytes .entry)) < r .used + 518) ⌝ }
 {
     match stage {
         Stage::Opening => open(b, store, bytes, out),
         Stage::Records(due) => stream_records::feed_records(b, store, due, bytes, out),
-        Stage::Over => Fed {
+        Stage::Over => StreamTurn {
             bank: b,
             stage: Stage::Over,
             used: bytes.len(),

@@ -1,5 +1,5 @@
-// How the replay of a trace that comes in pieces ends, 02 §1: with a number of its own, or with its input. `out` takes the
-// text; its bytes past the text are left free.
+// How the replay of a trace that comes in pieces ends (`replay.ends`): with a number of its own, or with its input. It
+// knows what is still to come, and no record. `out` takes the text; its bytes past the text are left free.
 ghost use mathlib.Core.Path.{_≡_};
 ghost use mathlib.Core.List.{List, [], _++_};
 ghost use Prim.Native.Nat.{ℕ, _+_, _≤_};
@@ -14,14 +14,14 @@ use bank::Bank;
 use stream_model::Stage;
 
 // The bank after a piece, what is to come, how many of its bytes were used, and how many bytes of the text are filled.
-pub struct Fed {
+pub struct StreamTurn {
     pub bank: Bank,
     pub stage: Stage,
     pub used: usize,
     pub count: usize,
 }
 
-// The line of a number of the replay's own.
+// The line of a number of the replay's own, with the value 0.
 fn refusal(number: u32) -> [u8; 12]
     ensures { λ r. ⌜ r ≡ lineOf 0 number ⌝ }
 {
@@ -33,14 +33,14 @@ fn refusal(number: u32) -> [u8; 12]
 }
 
 // A replay that ends with a number of its own: a layer, no interface.
-pub fn close(b: Bank, number: u32, used: usize, out: &mut [u8], at: usize) -> Fed
+pub fn close(b: Bank, number: u32, used: usize, out: &mut [u8], at: usize) -> StreamTurn
     requires { ⌜ at + 12 ≤ length (now out) ⌝ }
     ensures { λ r. ⌜ ((s : List ℕ) → fedBy r s (now (out .exit)) ≡ stream (controller b s []) Over used (take at (now (out .entry)) ++ lineOf 0 number)) × (r .count ≡ at + 12) × (r .used ≡ used) ⌝ }
 {
     let end = at + 12;
     let text = refusal(number);
     print::put(out, at, text);
-    Fed {
+    StreamTurn {
         bank: b,
         stage: Stage::Over,
         used: used,
@@ -59,14 +59,18 @@ pub fn over(stage: Stage) -> bool
     }
 }
 
-// The number with which the end of the input ends a replay, with so many bytes not used; 0 where there is none. Past the
-// last record no byte is held: `feed` answers it with 25.
+// The number that the end of the input gives, with so many bytes not used; 0 where all was there. Past the last record
+// no byte is held: `feed` answers it with 25.
 fn end_number(stage: Stage, held: usize) -> u32
     ensures { λ r. ⌜ r ≡ endNumber stage held ⌝ }
 {
     match stage {
-        Stage::Opening => if held < 4 { 24 } else { 25 },
-        Stage::Records(due) => if due == 0 { 0 } else { 25 },
+        Stage::Opening => if held < 4 {
+            number::WRONG_MARK
+        } else {
+            number::WRONG_TABLE
+        },
+        Stage::Records(due) => if due == 0 { 0 } else { number::WRONG_TABLE },
         Stage::Over => 0,
     }
 }

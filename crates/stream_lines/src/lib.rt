@@ -1,6 +1,6 @@
-// Records of a trace, and a line for each, 02 §1. The two tests of bank and store are made once, before the records: no
-// call changes what they say. Every call is lent an empty output: no record names the trigger. `out` takes the text; its
-// bytes past the text are left free.
+// Records of a trace, each called and its line printed (`replay.program`). It knows no file and no piece. The two tests
+// of bank and store are made once, before the records (`formed.kept`), and every call is lent an empty output
+// (`burst.replay`). `out` takes the text; its bytes past the text are left free.
 ghost use mathlib.Core.Path.{_≡_};
 ghost use mathlib.Core.Bool.{false};
 ghost use mathlib.Core.List.{List, []};
@@ -9,8 +9,8 @@ ghost use lib.ListN.{length};
 ghost use Rattle.model.specs.View.{tables};
 ghost use Rattle.answer.specs.Given.{bankWith, controller};
 ghost use Rattle.faults.specs.Faults.{faultNumber};
-ghost use Rattle.record_model.specs.Record.{each};
-ghost use Rattle.stream_model.specs.Stream.{printed, said, met, lines};
+ghost use Rattle.record_model.specs.Record.{eachRecord};
+ghost use Rattle.stream_model.specs.Stream.{recordsPrinted, said, met, lines};
 ghost use Rattle.stream_lines.specs.Given.{shownParts, shownBank};
 use bank::Bank;
 use bank::Heads;
@@ -47,7 +47,7 @@ fn show_parts(
     out: &mut [u8],
 ) -> Lines
     requires { ⌜ (fault ≡ faultNumber (bankWith st heads (tables (now flags) (now commands) (now payloads) (now output))) (length (now store))) × (12 * n ≤ length (now records)) × (12 * n ≤ length (now out)) ⌝ }
-    ensures { λ r. ⌜ (shownParts r (tables (now (flags .exit)) (now (commands .exit)) (now (payloads .exit)) (now (output .exit))) (now (store .exit)) (now (out .exit)) ≡ each said met n (now (records .entry)) 0 (printed (controller (bankWith st heads (tables (now (flags .entry)) (now (commands .entry)) (now (payloads .entry)) (now (output .entry)))) (now (store .entry)) (now (output .entry))) [] false)) × (r .count ≤ 12 * n) ⌝ }
+    ensures { λ r. ⌜ (shownParts r (tables (now (flags .exit)) (now (commands .exit)) (now (payloads .exit)) (now (output .exit))) (now (store .exit)) (now (out .exit)) ≡ eachRecord said met n (now (records .entry)) 0 (recordsPrinted (controller (bankWith st heads (tables (now (flags .entry)) (now (commands .entry)) (now (payloads .entry)) (now (output .entry)))) (now (store .entry)) (now (output .entry))) [] false)) × (r .count ≤ 12 * n) ⌝ }
 {
     let mut s = st;
     let mut h = heads;
@@ -78,7 +78,7 @@ fn show_parts(
     }
 }
 
-// A bank of a state and its tables.
+// The bank that is put together from a state and its tables.
 fn shown_of(y: Lines, flags: [u8; 128], commands: [u32; 16], payloads: [u32; 16]) -> Shown
     ensures { λ r. ⌜ ((s t : List ℕ) → shownBank r s t ≡ shownParts y (tables flags commands payloads []) s t) × (r .count ≡ y .count) ⌝ }
 {

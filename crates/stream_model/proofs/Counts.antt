@@ -8,15 +8,15 @@ use mathlib.Core.List.{List}
 use lib.Dec.{eqb, ltb}
 use lib.ListN.{length}
 use borrow.Author.Tests.{lt-ltb, le-ltb, ltb-false, eq-eqb}
-use Rattle.record_model.specs.Record.{within}
+use Rattle.record_model.specs.Record.{wholeRecords}
 
-pub within-is : (t : ℕ) (bytes : List ℕ) → within t bytes ≡ min t (length bytes / 12)
+pub within-is : (t : ℕ) (bytes : List ℕ) → wholeRecords t bytes ≡ min t (length bytes / 12)
 within-is t bytes = let k = length bytes / 12 in elim (decLt t k) [ yes h ↦ rw (lt-ltb t k h) (omega arith) | no h ↦ rw (le-ltb t k (omega arith)) (omega arith) ]
 
-pub within-most : (t : ℕ) (a : List ℕ) → within t a ≤ t
+pub within-most : (t : ℕ) (a : List ℕ) → wholeRecords t a ≤ t
 within-most t a = omega (arith, within-is t a)
 
-pub within-long : (t : ℕ) (a : List ℕ) → 12 * within t a ≤ length a
+pub within-long : (t : ℕ) (a : List ℕ) → 12 * wholeRecords t a ≤ length a
 within-long t a = omega (arith, within-is t a)
 
 and-false : (a b : Bool) → (a && b) ≡ false → a ≡ true → b ≡ false
@@ -24,7 +24,7 @@ and-false true b e h = e
 and-false false b e h = absurd (false≢true h)
 
 -- less than a record is left where no byte is past the last
-pub rest-short : (t : ℕ) (bytes : List ℕ) (n : ℕ) → n ≡ within t bytes → (eqb n t && ltb (12 * n) (length bytes)) ≡ false → length bytes < 12 * n + 12
+pub rest-short : (t : ℕ) (bytes : List ℕ) (n : ℕ) → n ≡ wholeRecords t bytes → (eqb n t && ltb (12 * n) (length bytes)) ≡ false → length bytes < 12 * n + 12
 rest-short t bytes n is e =
     let w = within-is t bytes in
     elim (decLt t (length bytes / 12)) [

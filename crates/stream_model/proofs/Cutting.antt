@@ -1,4 +1,4 @@
--- An input may be cut anywhere.
+-- `replay.pieces`: an input may be cut in two anywhere.
 use Prim.Native.Nat.{ℕ, _+_, _-_, _*_, _≤_}
 use native.Mathlib.Omega.{arith}
 use native.Mathlib.Nat.{zero-add, add-assoc}
@@ -16,10 +16,10 @@ use Rattle.trace_model.specs.declared.Head.{Head}
 use Rattle.trace_model.specs.declared.Head.the-variants.{More, Wrong, Right}
 use Rattle.trace_model.specs.Head.{headOf}
 use Rattle.trace_model.proofs.Table.{and-true}
-use Rattle.record_model.specs.Record.{within}
+use Rattle.record_model.specs.Record.{wholeRecords}
 use Rattle.stream_model.specs.declared.Stage.the-variants.{Opening, Records, Over}
-use Rattle.stream_model.specs.Stream.{Printed, lines, Stream, stream, over, recordsOf, openedBy, fed}
-use Rattle.stream_model.specs.Laws.{after, CutAnywhere}
+use Rattle.stream_model.specs.Stream.{Printed, lines, Stream, stream, over, recordsOf, openedBy, streamFed}
+use Rattle.stream_model.specs.Laws.{afterPiece, CutAnywhere}
 use Rattle.stream_model.proofs.Counts.{within-is, within-most, within-long}
 use Rattle.stream_model.proofs.Prefix.{Kept, head-kept}
 use Rattle.stream_model.proofs.Runs.{behind, same-lines, stopped, followed}
@@ -37,14 +37,14 @@ abbrev pub past : ℕ → ℕ → List ℕ → Bool
 past t n bytes = eqb n t && ltb (12 * n) (length bytes)
 
 module _ (t : ℕ) (a b : List ℕ) where
-  within-cut : let n = within t a in within t (a ++ b) ≡ n + within (t - n) (rest n a b)
+  within-cut : let n = wholeRecords t a in wholeRecords t (a ++ b) ≡ n + wholeRecords (t - n) (rest n a b)
   within-cut =
-      let n = within t a in
+      let n = wholeRecords t a in
       omega (arith, within-is t a, within-is t (a ++ b), within-is (t - n) (rest n a b), length-append a b, rest-length n a b (within-long t a))
 
-  past-stays : let n = within t a in past t n a ≡ true → (within t (a ++ b) ≡ n) × (past t n (a ++ b) ≡ true)
+  past-stays : let n = wholeRecords t a in past t n a ≡ true → (wholeRecords t (a ++ b) ≡ n) × (past t n (a ++ b) ≡ true)
   past-stays f =
-      let n = within t a in
+      let n = wholeRecords t a in
       let z = and-true (eqb n t) (ltb (12 * n) (length a)) f in
       let e = eqb-true n t (z .0) in
       let h = ltb-true (12 * n) (length a) (z .1) in
@@ -72,13 +72,13 @@ three f false false r e g h = h refl refl
 
 -- the first piece, and then the second
 abbrev pieces : List ℕ → List ℕ → Stream → Stream
-pieces a b y = after y (fed (y .left) (y .stage) (drop (y .used) a ++ b))
+pieces a b y = afterPiece y (streamFed (y .left) (y .stage) (drop (y .used) a ++ b))
 
 all-used : (a b : List ℕ) → length a + length (drop (length a) a ++ b) ≡ length (a ++ b)
 all-used a b = rw (drop-length a) (sym (length-append a b))
 
 over-cut : (l : Controller) (a b t : List ℕ) (number : ℕ) → pieces a b (over l a t number) ≡ over l (a ++ b) t number
-unfolding fed
+unfolding streamFed
 over-cut l a b t number = λ j. stream l Over (all-used a b j) (append-nil (t ++ lineOf 0 number) j)
 
 -- n records by what was printed for them; by the tests of a wrong one and of bytes past the last
@@ -88,24 +88,24 @@ picked l bytes to-come n text w q = cond w (over l bytes text 27) (cond q (over 
 abbrev pub told : ℕ → List ℕ → ℕ → Printed → Stream
 told t bytes n p = picked (p .left) bytes (t - n) n (p .text) (p .wrong) (past t n bytes)
 
-pub as-told : (l : Controller) (t : ℕ) (bytes : List ℕ) (n : ℕ) (p : Printed) → within t bytes ≡ n → lines n bytes l ≡ p → recordsOf l t bytes ≡ told t bytes n p
+pub as-told : (l : Controller) (t : ℕ) (bytes : List ℕ) (n : ℕ) (p : Printed) → wholeRecords t bytes ≡ n → lines n bytes l ≡ p → recordsOf l t bytes ≡ told t bytes n p
 as-told l t bytes n p e f = ap (λ (k : ℕ). told t bytes k (lines k bytes l)) e ∙ ap (told t bytes n) f
 
 -- m records behind n
 told-cut : (l : Controller) (t n m : ℕ) (a b text : List ℕ) (p : Printed) → n ≤ t → 12 * n ≤ length a
-    → after (stream l (Records (t - n)) (12 * n) text) (told (t - n) (rest n a b) m p) ≡ told t (a ++ b) (n + m) (behind text p)
+    → afterPiece (stream l (Records (t - n)) (12 * n) text) (told (t - n) (rest n a b) m p) ≡ told t (a ++ b) (n + m) (behind text p)
 told-cut l t n m a b text p few long =
     let first = stream l (Records (t - n)) (12 * n) text in
     let stage : t - n - m ≡ t - (n + m) = omega arith in
     let used : 12 * n + 12 * m ≡ 12 * (n + m) = omega arith in
-    let ends : (number : ℕ) → after first (over (p .left) (rest n a b) (p .text) number) ≡ over (p .left) (a ++ b) (text ++ p .text) number = λ number j. stream (p .left) Over (rest-length n a b long j) (sym (append-assoc text (p .text) (lineOf 0 number)) j) in
-    rw (past-cut t n m a b few long) (three (after first) (p .wrong) (past t (n + m) (a ++ b)) (picked (p .left) (a ++ b) (t - (n + m)) (n + m) (text ++ p .text)) (λ _. ends 27) (λ _ _. ends 25) (λ _ _ j. stream (p .left) (Records (stage j)) (used j) (text ++ p .text)))
+    let ends : (number : ℕ) → afterPiece first (over (p .left) (rest n a b) (p .text) number) ≡ over (p .left) (a ++ b) (text ++ p .text) number = λ number j. stream (p .left) Over (rest-length n a b long j) (sym (append-assoc text (p .text) (lineOf 0 number)) j) in
+    rw (past-cut t n m a b few long) (three (afterPiece first) (p .wrong) (past t (n + m) (a ++ b)) (picked (p .left) (a ++ b) (t - (n + m)) (n + m) (text ++ p .text)) (λ _. ends 27) (λ _ _. ends 25) (λ _ _ j. stream (p .left) (Records (stage j)) (used j) (text ++ p .text)))
 
 records-cut : (l : Controller) (t : ℕ) (a b : List ℕ) → pieces a b (recordsOf l t a) ≡ recordsOf l t (a ++ b)
-unfolding fed
+unfolding streamFed
 records-cut l t a b =
-    let n = within t a in
-    let m = within (t - n) (rest n a b) in
+    let n = wholeRecords t a in
+    let m = wholeRecords (t - n) (rest n a b) in
     let p = lines n a l in
     let long = within-long t a in
     let whole = as-told l t (a ++ b) in
@@ -120,12 +120,12 @@ later n s = stream (s .left) (s .stage) (n + s .used) (s .text)
 
 later-cut : (n : ℕ) (a b : List ℕ) (s : Stream) → pieces a b (later n s) ≡ later n (pieces (drop n a) b s)
 later-cut n a b s =
-    let z = fed (s .left) (s .stage) (drop (s .used) (drop n a) ++ b) in
-    ap (λ (x : List ℕ). after (later n s) (fed (s .left) (s .stage) (x ++ b))) (sym (drop-drop (s .used) n a))
+    let z = streamFed (s .left) (s .stage) (drop (s .used) (drop n a) ++ b) in
+    ap (λ (x : List ℕ). afterPiece (later n s) (streamFed (s .left) (s .stage) (x ++ b))) (sym (drop-drop (s .used) n a))
     ∙ ap (λ (u : ℕ). stream (z .left) (z .stage) u (s .text ++ z .text)) (add-assoc n (s .used) (z .used))
 
 opening-cut : (l : Controller) (a b : List ℕ) (h : Head) → Kept (length a) h (headOf (a ++ b)) → pieces a b (openedBy l a h) ≡ openedBy l (a ++ b) (headOf (a ++ b))
-unfolding fed
+unfolding streamFed
 opening-cut l a b More k = let s = openedBy l (a ++ b) (headOf (a ++ b)) in ap (λ (u : ℕ). stream (s .left) (s .stage) u (s .text)) (zero-add (s .used))
 opening-cut l a b (Wrong number) k = over-cut l a b [] number ∙ ap (openedBy l (a ++ b)) (sym k)
 opening-cut l a b (Right n r) k =
@@ -134,7 +134,7 @@ opening-cut l a b (Right n r) k =
     ∙ ap (openedBy l (a ++ b)) (sym (k .1))
 
 pub cut-anywhere : CutAnywhere
-unfolding CutAnywhere fed
+unfolding CutAnywhere streamFed
 cut-anywhere l Opening a b = opening-cut l a b (headOf a) (head-kept a b)
 cut-anywhere l (Records t) a b = records-cut l t a b
 cut-anywhere l Over a b = ap (λ (u : ℕ). stream l Over u []) (all-used a b)

@@ -10,11 +10,11 @@ use borrow.Author.Tests.{le-ltb, ltb-false, eqb-false, eq-eqb, ne-eqb}
 use Rattle.model.specs.Rings.{Controller}
 use Rattle.print.specs.Line.{lineOf}
 use Rattle.trace_model.specs.declared.Head.{Head}
-use Rattle.trace_model.specs.Format.{mark, opens, sections, records, placeOf, tableRight, fault}
+use Rattle.trace_model.specs.Format.{mark, beginsWith, sections, records, sectionPlace, tableRight, fault}
 use Rattle.trace_model.specs.Head.{headLength}
-use Rattle.record_model.specs.Record.{within}
+use Rattle.record_model.specs.Record.{wholeRecords}
 use Rattle.stream_model.specs.declared.Stage.the-variants.{Records}
-use Rattle.stream_model.specs.Stream.{lines, Stream, openedBy, fed, endNumber, endText}
+use Rattle.stream_model.specs.Stream.{lines, Stream, openedBy, streamFed, endNumber, endText}
 use Rattle.stream_model.specs.Laws.{TableIsTold, LengthIsTold}
 use Rattle.stream_model.proofs.Counts.{within-most, within-long}
 use Rattle.stream_model.proofs.Cutting.{past, picked}
@@ -28,9 +28,9 @@ faulty true false e = (refl, refl)
 faulty false t e = absurd (omega arith)
 
 pub table-is-told : TableIsTold
-unfolding TableIsTold fault fed endNumber
+unfolding TableIsTold fault streamFed endNumber
 table-is-told l file e u =
-    let f = faulty (opens mark file) (tableRight file) e in
+    let f = faulty (beginsWith mark file) (tableRight file) e in
     let h = marked file (sym (f .0)) in
     let k : ltb (length file - 0) 4 ≡ false = le-ltb (length file - 0) 4 (omega (arith, h)) in
     unsound-head file (sym (f .0)) (not-sound file u) (λ h. ended file (openedBy l file h) ≡ lineOf 0 25)
@@ -43,7 +43,7 @@ unfolding endNumber
 missing k n h = rw (ne-eqb k 0 h)
 
 -- records are missing where no byte is past them, since the length is another
-short : (r k : ℕ) (bytes : List ℕ) → k ≡ within r bytes → (length bytes ≡ 12 * r → ⊥) → past r k bytes ≡ false → r - k ≡ 0 → ⊥
+short : (r k : ℕ) (bytes : List ℕ) → k ≡ wholeRecords r bytes → (length bytes ≡ 12 * r → ⊥) → past r k bytes ≡ false → r - k ≡ 0 → ⊥
 short r k bytes is other q z =
     let few = within-most r bytes in
     let long = within-long r bytes in
@@ -59,16 +59,16 @@ closed l bytes k n text false true rest h = append-nil (text ++ lineOf 0 25)
 closed l bytes k n text false false rest h = ap (λ (x : List ℕ). text ++ x) (missing k (rest (picked l bytes k n text false false)) (h refl))
 
 pub length-is-told : LengthIsTold
-unfolding LengthIsTold fault fed
+unfolding LengthIsTold fault streamFed
 length-is-told l file e u =
-    let f = faulty (opens mark file) (tableRight file) e in
+    let f = faulty (beginsWith mark file) (tableRight file) e in
     let t = sound-of file u in
     let n = headLength file in
     let r = records file (sections file) in
     let bytes = drop n file in
-    let k = within r bytes in
+    let k = wholeRecords r bytes in
     let p = lines k bytes l in
-    let other = eqb-false (placeOf file (sections file)) (length file) (sym (right-by-length file t) ∙ f .1) in
+    let other = eqb-false (sectionPlace file (sections file)) (length file) (sym (right-by-length file t) ∙ f .1) in
     let size : length bytes ≡ 12 * r → ⊥ = λ z. other (omega (arith, z, length-drop n file, t .whole)) in
     let rest : Stream → ℕ = λ s. length file - (n + s .used) in (
       other,

@@ -11,7 +11,7 @@ use borrow.Author.Tests.{lt-ltb, le-ltb}
 use Rattle.trace_model.specs.declared.Head.{Head}
 use Rattle.trace_model.specs.declared.Head.the-variants.{More, Wrong, Right}
 use Rattle.little_endian.specs.Numbers.{twoAt, fourAt}
-use Rattle.trace_model.specs.Format.{mark, opens, sections, records, placeOf, startsRight}
+use Rattle.trace_model.specs.Format.{mark, beginsWith, sections, records, sectionPlace, startsRight}
 use Rattle.trace_model.specs.Head.{countTold, headOf}
 
 -- what m bytes told is told again, and a right head is among them
@@ -28,7 +28,7 @@ either m false x y z h k = k
 enough : (m m′ k : ℕ) (x y : Head) → m ≤ m′ → (k ≤ m → Kept m x y) → Kept m (cond (ltb m k) More x) (cond (ltb m′ k) More y)
 enough m m′ k x y l f = elim (decLt m k) [ yes s ↦ rw (lt-ltb m k s) tt | no s ↦ rw (le-ltb m k (omega arith), le-ltb m′ k (omega arith)) (f (omega arith)) ]
 
-opens-more : (m a b : List ℕ) → length m ≤ length a → opens m (a ++ b) ≡ opens m a
+opens-more : (m a b : List ℕ) → length m ≤ length a → beginsWith m (a ++ b) ≡ beginsWith m a
 opens-more [] a b h = refl
 opens-more (x ∷ m) [] b h = absurd (omega arith)
 opens-more (x ∷ m) (y ∷ a) b h = ap (λ (t : Bool). eqb y x && t) (opens-more m a b (omega arith))
@@ -48,7 +48,7 @@ module _ (a b : List ℕ) where
   records-more zero h = refl
   records-more (suc n) h = ap₂ _+_ (records-more n (omega arith)) (four-more (10 + 8 * n) (omega arith))
 
-  place-more : (n : ℕ) → 6 ≤ length a → 6 + 8 * n ≤ length a → placeOf (a ++ b) n ≡ placeOf a n
+  place-more : (n : ℕ) → 6 ≤ length a → 6 + 8 * n ≤ length a → sectionPlace (a ++ b) n ≡ sectionPlace a n
   place-more n l h = ap₂ (λ (x y : ℕ). 6 + 8 * x + 12 * y) (two-more 4 l) (records-more n h)
 
   starts-more : (n : ℕ) → 6 + 8 * n ≤ length a → startsRight (a ++ b) n ≡ startsRight a n
@@ -58,12 +58,12 @@ module _ (a b : List ℕ) where
 
   -- a table of n sections
   abbrev table : List ℕ → ℕ → Head
-  table x n = cond (startsRight x n && leb (placeOf x n) 0x1000000) (Right (6 + 8 * n) (records x n)) (Wrong 25)
+  table x n = cond (startsRight x n && leb (sectionPlace x n) 0x1000000) (Right (6 + 8 * n) (records x n)) (Wrong 25)
 
   table-kept : (n : ℕ) → 6 ≤ length a → 6 + 8 * n ≤ length a → Kept (length a) (table a n) (table (a ++ b) n)
   table-kept n l h =
       let r = Right (6 + 8 * n) (records a n) in
-      rw (starts-more n h, place-more n l h, records-more n h) (either (length a) (startsRight a n && leb (placeOf a n) 0x1000000) r r (Wrong 25) (h, refl) refl)
+      rw (starts-more n h, place-more n l h, records-more n h) (either (length a) (startsRight a n && leb (sectionPlace a n) 0x1000000) r r (Wrong 25) (h, refl) refl)
 
   abbrev count : List ℕ → ℕ → Head
   count x n = cond (leb 1 n && leb n 64) (cond (ltb (length x) (6 + 8 * n)) More (table x n)) (Wrong 25)
@@ -78,4 +78,4 @@ module _ (a b : List ℕ) where
   head-kept =
       let m = length a in
       let m′ = length (a ++ b) in
-      enough m m′ 4 _ _ longer (λ h. rw (opens-more mark a b h) (either m (opens mark a) _ _ (Wrong 24) (enough m m′ 6 (countTold a) (countTold (a ++ b)) longer count-kept) refl))
+      enough m m′ 4 _ _ longer (λ h. rw (opens-more mark a b h) (either m (beginsWith mark a) _ _ (Wrong 24) (enough m m′ 6 (countTold a) (countTold (a ++ b)) longer count-kept) refl))

@@ -15,8 +15,8 @@ use Rattle.letters.specs.declared.Parsed.the-variants.{Named, Skipped}
 use Rattle.letters.specs.Forms.{formOf}
 use Rattle.lines.proofs.Choices.{chosen, passed}
 use Rattle.little_endian.specs.Numbers.{twoAt, fourAt}
-use Rattle.record_model.specs.Record.{Record, rec, namedIn, recordAt, onward, each}
-use Rattle.stream_model.specs.Stream.{Printed, printed, said, met, lines}
+use Rattle.record_model.specs.Record.{Record, rec, namedIn, recordAt, onward, eachRecord}
+use Rattle.stream_model.specs.Stream.{Printed, recordsPrinted, said, met, lines}
 use Rattle.stream_model.proofs.Prefix.{two-more, four-more}
 
 -- ── A record ──────────────────────────────────────────────────────────────────────────────────────────────────
@@ -49,28 +49,28 @@ record-behind n i bytes =
 
 -- ── Records ───────────────────────────────────────────────────────────────────────────────────────────────────
 module _ {A : Type 0} (make : Call → A → A) (stop : A → A) where
-  each-more : (n i : ℕ) (a b : List ℕ) → 12 * (i + n) ≤ length a → each make stop n (a ++ b) i ≡ each make stop n a i
-  unfolding each
+  each-more : (n i : ℕ) (a b : List ℕ) → 12 * (i + n) ≤ length a → eachRecord make stop n (a ++ b) i ≡ eachRecord make stop n a i
+  unfolding eachRecord
   each-more zero i a b h = refl
   each-more (suc n) i a b h = λ j s. onward make stop (record-more a b i (omega arith) j) s (each-more n (suc i) a b (omega arith) j)
 
-  each-behind : (k n i : ℕ) (bytes : List ℕ) → each make stop k (drop (12 * n) bytes) i ≡ each make stop k bytes (n + i)
-  unfolding each
+  each-behind : (k n i : ℕ) (bytes : List ℕ) → eachRecord make stop k (drop (12 * n) bytes) i ≡ eachRecord make stop k bytes (n + i)
+  unfolding eachRecord
   each-behind zero n i bytes = refl
   each-behind (suc k) n i bytes =
       let e : n + suc i ≡ suc (n + i) = omega arith in
-      λ j s. onward make stop (record-behind n i bytes j) s ((each-behind k n (suc i) bytes ∙ ap (each make stop k bytes) e) j)
+      λ j s. onward make stop (record-behind n i bytes j) s ((each-behind k n (suc i) bytes ∙ ap (eachRecord make stop k bytes) e) j)
 
-  -- a change that calls and stops do not see
+  -- a change f that the steps for a call and for a wrong record respect
   module _ (f : A → A) (makes : (k : Call) (x : A) → f (make k x) ≡ make k (f x)) (stops : (x : A) → f (stop x) ≡ stop (f x)) where
     onward-carried : (p : Parsed) (x : A) (rest : A → A) → ((y : A) → f (rest y) ≡ rest (f y)) → f (onward make stop p x rest) ≡ onward make stop p (f x) rest
     onward-carried (Named k) x rest h = h (make k x) ∙ ap rest (makes k x)
     onward-carried Skipped x rest h = stops x
 
-    each-carried : (n i : ℕ) (bytes : List ℕ) (x : A) → f (each make stop n bytes i x) ≡ each make stop n bytes i (f x)
-    unfolding each
+    each-carried : (n i : ℕ) (bytes : List ℕ) (x : A) → f (eachRecord make stop n bytes i x) ≡ eachRecord make stop n bytes i (f x)
+    unfolding eachRecord
     each-carried zero i bytes x = refl
-    each-carried (suc n) i bytes x = onward-carried (recordAt bytes i) x (each make stop n bytes (suc i)) (each-carried n (suc i) bytes)
+    each-carried (suc n) i bytes x = onward-carried (recordAt bytes i) x (eachRecord make stop n bytes (suc i)) (each-carried n (suc i) bytes)
 
 -- ── Printed ───────────────────────────────────────────────────────────────────────────────────────────────────
 -- what goes on behind some records, unless one was wrong
@@ -82,44 +82,44 @@ onward-onto : (x : Parsed) (p : Printed) (whole first go : Printed → Printed) 
 onward-onto (Named k) p whole first go h = h (said k p) refl
 onward-onto Skipped p whole first go h = refl
 
-two-runs : (n k i : ℕ) (bytes : List ℕ) (p : Printed) → p .wrong ≡ false → each said met (n + k) bytes i p ≡ onto (each said met n bytes i p) (each said met k bytes (n + i))
-unfolding each
+two-runs : (n k i : ℕ) (bytes : List ℕ) (p : Printed) → p .wrong ≡ false → eachRecord said met (n + k) bytes i p ≡ onto (eachRecord said met n bytes i p) (eachRecord said met k bytes (n + i))
+unfolding eachRecord
 two-runs zero k i bytes p e =
     let m : 0 + k ≡ k = omega arith in
     let j : i ≡ 0 + i = omega arith in
-    ap₂ (λ (m j : ℕ). each said met m bytes j p) m j ∙ sym (passed (p .wrong) p (each said met k bytes (0 + i) p) e)
+    ap₂ (λ (m j : ℕ). eachRecord said met m bytes j p) m j ∙ sym (passed (p .wrong) p (eachRecord said met k bytes (0 + i) p) e)
 two-runs (suc n) k i bytes p e =
     let m : suc n + k ≡ suc (n + k) = omega arith in
     let j : n + suc i ≡ suc n + i = omega arith in
-    ap (λ (m : ℕ). each said met m bytes i p) m
-    ∙ onward-onto (recordAt bytes i) p (each said met (n + k) bytes (suc i)) (each said met n bytes (suc i)) (each said met k bytes (suc n + i))
-    (λ q z. two-runs n k (suc i) bytes q z ∙ ap (λ (j : ℕ). onto (each said met n bytes (suc i) q) (each said met k bytes j)) j)
+    ap (λ (m : ℕ). eachRecord said met m bytes i p) m
+    ∙ onward-onto (recordAt bytes i) p (eachRecord said met (n + k) bytes (suc i)) (eachRecord said met n bytes (suc i)) (eachRecord said met k bytes (suc n + i))
+    (λ q z. two-runs n k (suc i) bytes q z ∙ ap (λ (j : ℕ). onto (eachRecord said met n bytes (suc i) q) (eachRecord said met k bytes j)) j)
 
 -- text that was printed before stands before, and changes nothing else
 abbrev pub behind : List ℕ → Printed → Printed
-behind t p = printed (p .left) (t ++ p .text) (p .wrong)
+behind t p = recordsPrinted (p .left) (t ++ p .text) (p .wrong)
 
-text-behind : (n : ℕ) (bytes : List ℕ) (p : Printed) → p .wrong ≡ false → each said met n bytes 0 p ≡ behind (p .text) (lines n bytes (p .left))
+text-behind : (n : ℕ) (bytes : List ℕ) (p : Printed) → p .wrong ≡ false → eachRecord said met n bytes 0 p ≡ behind (p .text) (lines n bytes (p .left))
 text-behind n bytes p e =
-    ap (each said met n bytes 0) (λ j. printed (p .left) (sym (append-nil (p .text)) j) (e j))
-    ∙ sym (each-carried said met (behind (p .text)) makes (λ x. refl) n 0 bytes (printed (p .left) [] false))
+    ap (eachRecord said met n bytes 0) (λ j. recordsPrinted (p .left) (sym (append-nil (p .text)) j) (e j))
+    ∙ sym (each-carried said met (behind (p .text)) makes (λ x. refl) n 0 bytes (recordsPrinted (p .left) [] false))
   where
     makes : (k : Call) (x : Printed) → behind (p .text) (said k x) ≡ said k (behind (p .text) x)
-    makes k x = let s = step rings (x .left) k in ap (λ (t : List ℕ). printed (s .next) t false) (sym (append-assoc (p .text) (x .text) (lineOf (s .answer .value) (s .answer .number))))
+    makes k x = let s = step rings (x .left) k in ap (λ (t : List ℕ). recordsPrinted (s .next) t false) (sym (append-assoc (p .text) (x .text) (lineOf (s .answer .value) (s .answer .number))))
 
 -- n records of the first piece, and m behind them
 pub same-lines : (n : ℕ) (a b : List ℕ) (l : Controller) → 12 * n ≤ length a → lines n (a ++ b) l ≡ lines n a l
-same-lines n a b l h = λ j. each-more said met n 0 a b (omega arith) j (printed l [] false)
+same-lines n a b l h = λ j. each-more said met n 0 a b (omega arith) j (recordsPrinted l [] false)
 
 module _ (n m : ℕ) (a b : List ℕ) (l : Controller) (h : 12 * n ≤ length a) where
-  cut-lines : lines (n + m) (a ++ b) l ≡ onto (lines n a l) (each said met m (drop (12 * n) a ++ b) 0)
+  cut-lines : lines (n + m) (a ++ b) l ≡ onto (lines n a l) (eachRecord said met m (drop (12 * n) a ++ b) 0)
   cut-lines =
-      two-runs n m 0 (a ++ b) (printed l [] false) refl
-      ∙ ap₂ onto (same-lines n a b l h) (sym (each-behind said met m n 0 (a ++ b)) ∙ ap (λ (x : List ℕ). each said met m x 0) (drop-append-le (12 * n) a b h))
+      two-runs n m 0 (a ++ b) (recordsPrinted l [] false) refl
+      ∙ ap₂ onto (same-lines n a b l h) (sym (each-behind said met m n 0 (a ++ b)) ∙ ap (λ (x : List ℕ). eachRecord said met m x 0) (drop-append-le (12 * n) a b h))
 
   -- past a wrong record nothing changes, and else the second run follows
   pub stopped : lines n a l .wrong ≡ true → lines (n + m) (a ++ b) l ≡ lines n a l
-  stopped e = let p = lines n a l in cut-lines ∙ chosen (p .wrong) p (each said met m (drop (12 * n) a ++ b) 0 p) e
+  stopped e = let p = lines n a l in cut-lines ∙ chosen (p .wrong) p (eachRecord said met m (drop (12 * n) a ++ b) 0 p) e
 
   pub followed : lines n a l .wrong ≡ false → lines (n + m) (a ++ b) l ≡ behind (lines n a l .text) (lines m (drop (12 * n) a ++ b) (lines n a l .left))
-  followed e = let p = lines n a l in cut-lines ∙ passed (p .wrong) p (each said met m (drop (12 * n) a ++ b) 0 p) e ∙ text-behind m (drop (12 * n) a ++ b) p e
+  followed e = let p = lines n a l in cut-lines ∙ passed (p .wrong) p (eachRecord said met m (drop (12 * n) a ++ b) 0 p) e ∙ text-behind m (drop (12 * n) a ++ b) p e

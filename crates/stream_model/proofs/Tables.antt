@@ -10,14 +10,14 @@ use lib.ListN.{length}
 use borrow.Author.Tests.{le-leb, leb-true, eqb-true}
 use Rattle.trace_model.specs.declared.Head.{Head}
 use Rattle.trace_model.specs.declared.Head.the-variants.{More, Wrong, Right}
-use Rattle.trace_model.specs.Format.{mark, opens, sections, records, placeOf, startsRight, tableRight}
+use Rattle.trace_model.specs.Format.{mark, beginsWith, sections, records, sectionPlace, startsRight, tableRight}
 use Rattle.trace_model.specs.Head.{headLength, headOf}
 use Rattle.trace_model.proofs.Table as table
 use Rattle.trace_model.proofs.Table.{and-true, mark-short, measured, wrong}
 use Rattle.trace_model.proofs.Heads.{count-cut, count-there, too-few, too-many, table-short, table-whole, starts-wrong, too-large, table-right}
 use Rattle.stream_model.specs.Laws.{tableSound}
 
-pub marked : (file : List ℕ) → true ≡ opens mark file → 4 ≤ length file
+pub marked : (file : List ℕ) → true ≡ beginsWith mark file → 4 ≤ length file
 marked file m = elim (decLt (length file) 4) [ yes h ↦ absurd (true≢false (m ∙ sym (mark-short file h))) | no h ↦ omega (arith, h) ]
 
 pub record Sound (file : List ℕ) : Type 0 where
@@ -26,7 +26,7 @@ pub record Sound (file : List ℕ) : Type 0 where
   pub most : sections file ≤ 64
   pub whole : 6 + 8 * sections file ≤ length file
   pub starts : startsRight file (sections file) ≡ true
-  pub size : placeOf file (sections file) ≤ 0x1000000
+  pub size : sectionPlace file (sections file) ≤ 0x1000000
 
 pub sound-of : (file : List ℕ) → tableSound file ≡ true → Sound file
 unfolding tableSound
@@ -37,7 +37,7 @@ sound-of file e =
     let c = leb n 64 in
     let d = leb (6 + 8 * n) (length file) in
     let s = startsRight file n in
-    let z5 = and-true (a && b && c && d && s) (leb (placeOf file n) 0x1000000) e in
+    let z5 = and-true (a && b && c && d && s) (leb (sectionPlace file n) 0x1000000) e in
     let z4 = and-true (a && b && c && d) s (z5 .0) in
     let z3 = and-true (a && b && c) d (z4 .0) in
     let z2 = and-true (a && b) c (z3 .0) in
@@ -58,32 +58,32 @@ pub not-right : (file : List ℕ) → tableSound file ≡ false → tableRight f
 not-right file u = sym (wrong file (λ t. not-sound file u (right-sound file t)))
 
 -- then the file is right where it has the length that the table asks for
-pub right-by-length : (file : List ℕ) → Sound file → tableRight file ≡ eqb (placeOf file (sections file)) (length file)
-right-by-length file t = sym (measured file n true (placeOf file n) refl (t .head) (t .least) (t .most) (t .whole) (sym (t .starts)) refl) ∙ go (eqb (placeOf file n) (length file)) refl
+pub right-by-length : (file : List ℕ) → Sound file → tableRight file ≡ eqb (sectionPlace file (sections file)) (length file)
+right-by-length file t = sym (measured file n true (sectionPlace file n) refl (t .head) (t .least) (t .most) (t .whole) (sym (t .starts)) refl) ∙ go (eqb (sectionPlace file n) (length file)) refl
   where
     n : ℕ
     n = sections file
 
-    go : (b : Bool) → eqb (placeOf file n) (length file) ≡ b → (true && b && leb (length file) 0x1000000) ≡ b
-    go true e = le-leb (length file) 0x1000000 (omega (arith, eqb-true (placeOf file n) (length file) e, t .size))
+    go : (b : Bool) → eqb (sectionPlace file n) (length file) ≡ b → (true && b && leb (length file) 0x1000000) ≡ b
+    go true e = le-leb (length file) 0x1000000 (omega (arith, eqb-true (sectionPlace file n) (length file) e, t .size))
     go false e = refl
 
 -- ── Its head ──────────────────────────────────────────────────────────────────────────────────────────────────
-pub sound-head : (file : List ℕ) → opens mark file ≡ true → Sound file → headOf file ≡ Right (headLength file) (records file (sections file))
+pub sound-head : (file : List ℕ) → beginsWith mark file ≡ true → Sound file → headOf file ≡ Right (headLength file) (records file (sections file))
 sound-head file m t =
     let n = sections file in
-    sym (table-right file n refl true (placeOf file n) (records file n) (sym (t .starts)) refl refl (t .size) (omega arith)
+    sym (table-right file n refl true (sectionPlace file n) (records file n) (sym (t .starts)) refl refl (t .size) (omega arith)
     ∙ table-whole file n refl (t .least) (t .most) (t .whole)
     ∙ count-there file true (sym m) refl (t .head))
 
 -- a table that is cut, or told to be wrong: what holds of both holds of the head
-module _ (file : List ℕ) (m : true ≡ opens mark file) (unsound : Sound file → ⊥) (P : Head → Type 0) (cut : P More) (told : P (Wrong 25)) where
+module _ (file : List ℕ) (m : true ≡ beginsWith mark file) (unsound : Sound file → ⊥) (P : Head → Type 0) (cut : P More) (told : P (Wrong 25)) where
   abbrev n : ℕ
   n = sections file
 
   by-size : 6 ≤ length file → 1 ≤ n → n ≤ 64 → 6 + 8 * n ≤ length file → startsRight file n ≡ true → P (headOf file)
-  by-size h a b w s = elim (decLt 0x1000000 (placeOf file n)) [
-    | yes k ↦ subst P (too-large file n refl (placeOf file n) refl k ∙ table-whole file n refl a b w ∙ count-there file true m refl h) told
+  by-size h a b w s = elim (decLt 0x1000000 (sectionPlace file n)) [
+    | yes k ↦ subst P (too-large file n refl (sectionPlace file n) refl k ∙ table-whole file n refl a b w ∙ count-there file true m refl h) told
     | no k ↦ absurd (unsound (record { head = h; least = a; most = b; whole = w; starts = s; size = omega (arith, k) }))
   ]
 

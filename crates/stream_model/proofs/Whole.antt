@@ -12,7 +12,7 @@ use Rattle.record_model.specs.Writer.{sectionBytes, traceOf}
 use Rattle.record_model.proofs.Writing.{section-read, section-length}
 use Rattle.record_model.proofs.Joined.{every-joined, records-behind, head-right}
 use Rattle.record_model.proofs.Made.{each-named}
-use Rattle.stream_model.specs.Stream.{Printed, printed, said, met, lines}
+use Rattle.stream_model.specs.Stream.{Printed, recordsPrinted, said, met, lines}
 use Rattle.stream_model.specs.Laws.{WrittenIsPrinted}
 use Rattle.stream_model.proofs.Inputs.{reported, head-and-records}
 
@@ -29,7 +29,7 @@ unfolding WrittenIsPrinted
 written-is-printed ss l few many size a =
     let ks = flatten ss in
     let n = length ks in
-    let start = printed l [] false in
+    let start = recordsPrinted l [] false in
     let bytes : drop (6 + 8 * length ss) (traceOf ss) ≡ sectionBytes ks = records-behind ss many size in
     let named : lines n (sectionBytes ks) l ≡ made (take n ks) start = each-named said met ks (sectionBytes ks) 0 n start (section-read ks (every-joined ss a)) (omega arith) in
     head-and-records l (traceOf ss) (6 + 8 * length ss) n (head-right ss many size few) (ap length bytes ∙ section-length ks)

@@ -1,7 +1,8 @@
-// What of a trace is to come where it comes in pieces, 02 §1. specs/ has a piece and a whole input as definitions; proofs/
-// has their laws. No function is here.
+// Replay of a trace that comes in pieces, as definitions (`replay.program`, `replay.ends`, `replay.length`): what a
+// piece does and prints, and a whole input; their laws, and demand 3 of it (`demand.replays`). The only code is the
+// type of what is still to come.
 
-// What is to come.
+// What of a trace is still to come.
 pub enum Stage {
     // The mark and the table.
     Opening,

@@ -1,4 +1,5 @@
-// The records of a piece of a trace, 02 §1: their lines, and what is to come. `out` takes the text; its bytes past the text
+// The whole records of a piece of a trace: their lines, and what is still to come, or the number at which the replay
+// ends (`replay.ends`). It knows how many records are due, and no table. `out` takes the text; its bytes past the text
 // are left free.
 ghost use mathlib.Core.Path.{_≡_};
 ghost use mathlib.Core.List.{[]};
@@ -8,11 +9,17 @@ ghost use Rattle.answer.specs.Given.{controller};
 ghost use Rattle.stream_model.specs.Stream.{recordsOf};
 ghost use Rattle.stream_end.specs.Given.{fedBy};
 use bank::Bank;
-use stream_end::Fed;
+use stream_end::StreamTurn;
 use stream_model::Stage;
 
 // The records of a piece: a layer, no interface.
-pub fn feed_records(b: Bank, store: &mut [u32], due: usize, bytes: &[u8], out: &mut [u8]) -> Fed
+pub fn feed_records(
+    b: Bank,
+    store: &mut [u32],
+    due: usize,
+    bytes: &[u8],
+    out: &mut [u8],
+) -> StreamTurn
     requires { ⌜ length (now bytes) + 12 ≤ length (now out) ⌝ }
     ensures { λ r. ⌜ (fedBy r (now (store .exit)) (now (out .exit)) ≡ recordsOf (controller b (now (store .entry)) []) due (now (bytes .entry))) × (r .count ≤ length (now (out .exit))) × (r .used ≤ length (now (bytes .entry))) × (length (now (bytes .entry)) < r .used + 12) ⌝ }
 {
@@ -22,12 +29,12 @@ pub fn feed_records(b: Bank, store: &mut [u32], due: usize, bytes: &[u8], out: &
     let len = bytes.len();
     let count = p.count;
     if p.wrong {
-        return stream_end::close(next, 27, len, out, count);
+        return stream_end::close(next, number::WRONG_RECORD, len, out, count);
     }
     if (n == due) & (12 * n < len) {
-        return stream_end::close(next, 25, len, out, count);
+        return stream_end::close(next, number::WRONG_TABLE, len, out, count);
     }
-    Fed {
+    StreamTurn {
         bank: next,
         stage: Stage::Records(due - n),
         used: 12 * n,

@@ -1,4 +1,4 @@
--- What both timed functions share: the bank that they set up, and where the last answer goes.
+-- What `timing_list` and `timing_each` share: the bank that they set up, and where the last answer goes.
 use Prim.Native.Nat.{ℕ, _-_}
 use mathlib.Core.Bool.{cond}
 use mathlib.Core.List.{List}
@@ -8,10 +8,10 @@ use Rattle.bank.specs.declared.Answer.{Answer}
 use Rattle.bank.specs.declared.Bank.{Bank}
 use Rattle.bank.specs.SetUp.{setUp}
 
--- every capacity cap, almost-empty watermarks 1, almost-full one less than the capacity, ID 0
+-- a bank with queues of cap words, the watermark 1 for CMD and SDO, one less than cap for the other three, and ID 0
 abbrev pub freshOf : ℕ → Bank
 freshOf cap = setUp (record { cmd = cap; cmdr = cap; sdo = cap; sdi = cap; ibi = cap }) (record { cmd = 1; cmdr = cap - 1; sdo = 1; sdi = cap - 1; ibi = cap - 1 }) 0 .bank
 
--- value and number, where there is room for both
+-- the lent words with value and number in them, where there is room for both
 abbrev pub keptIn : List ℕ → Answer → List ℕ
 keptIn ws a = cond (ltb 1 (length ws)) (set (set ws 0 (a .value)) 1 (a .number)) ws

@@ -1,4 +1,4 @@
-// What both timed functions share: the bank that they set up, and where the last answer goes.
+// What `timing_list` and `timing_each` share: the bank that they set up, and where the last answer goes.
 ghost use mathlib.Core.Path.{_≡_};
 ghost use Prim.Native.Nat.{_-_};
 ghost use Rattle.timing.specs.Timing.{freshOf, keptIn};
@@ -12,7 +12,8 @@ fn less_one(cap: u32) -> u32
     if cap == 0 { 0 } else { cap - 1 }
 }
 
-// Every capacity `cap`, almost-empty watermarks 1, almost-full one less than the capacity, ID 0.
+// A bank with queues of `cap` words, the watermark 1 for CMD and SDO, one less than `cap` for the other three, and ID
+// 0.
 pub fn fresh(cap: u32) -> Bank
     ensures { λ b. ⌜ b ≡ freshOf cap ⌝ }
 {

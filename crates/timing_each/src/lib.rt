@@ -1,5 +1,5 @@
-// What the benchmark times: a section of a trace by a call in place for each record. The bank lives inside the exported
-// function, which can take no reference that leads to an enum.
+// What the benchmark of bench/ times, exported: a section of a trace by a call in place for each record. The bank is a
+// local of the exported function, which can take no reference that leads to an enum.
 ghost use mathlib.Core.Path.{_≡_};
 ghost use mathlib.Core.List.{[]};
 ghost use Prim.Native.Nat.{_*_, _≤_, _%_, _^_};
@@ -7,17 +7,17 @@ ghost use lib.ListN.{length};
 ghost use Rattle.model.specs.Engine.{step};
 ghost use Rattle.model.specs.Rings.{rings};
 ghost use Rattle.answer.specs.Given.{controller, givenOut};
-ghost use Rattle.record_model.specs.Record.{each};
-ghost use Rattle.playback_model.specs.Replay.{begun, did, wrong, replayOf};
+ghost use Rattle.record_model.specs.Record.{eachRecord};
+ghost use Rattle.playback_model.specs.Replay.{replayBegun, did, wrong, replayOf};
 ghost use Rattle.timing.specs.Timing.{freshOf, keptIn};
 use answer::Out;
 use bank::Answer;
 use bank::Bank;
 use letters::Parsed;
 use model::Call;
-use playback_model::Told;
+use playback_model::Report;
 
-// A call in place on a bank in a local. Whoever calls this needs no walk.
+// A call in place on a bank in a local. A function of its own: only this one has a proof by hand.
 fn step_once(b: Bank, call: Call, store: &mut [u32], output: &mut [u32]) -> Out
     ensures { λ y. ⌜ givenOut y (now (store .exit)) (now (output .exit)) ≡ step rings (controller b (now (store .entry)) (now (output .entry))) call ⌝ }
 {
@@ -30,9 +30,9 @@ fn step_once(b: Bank, call: Call, store: &mut [u32], output: &mut [u32]) -> Out
 }
 
 // The first `n` records, up to a wrong one, and what is told of them. Every call is lent an empty output.
-fn replay_records(b: Bank, store: &mut [u32], records: &[u8], n: usize) -> Told
+fn replay_records(b: Bank, store: &mut [u32], records: &[u8], n: usize) -> Report
     requires { ⌜ 12 * n ≤ length (now records) ⌝ }
-    ensures { λ t. ⌜ (let r = each did wrong n (now (records .entry)) 0 (begun 0 (controller b (now (store .entry)) [])) in (t ≡ r .told) × (now (store .exit) ≡ r .left .store)) ⌝ }
+    ensures { λ t. ⌜ (let r = eachRecord did wrong n (now (records .entry)) 0 (replayBegun 0 (controller b (now (store .entry)) [])) in (t ≡ r .told) × (now (store .exit) ≡ r .left .store)) ⌝ }
 {
     let mut bank = b;
     let mut a = Answer {
@@ -43,8 +43,8 @@ fn replay_records(b: Bank, store: &mut [u32], records: &[u8], n: usize) -> Told
     for i in 0..n {
         let named = record::at(records, i);
         let Parsed::Named(call) = named else {
-            return Told {
-                number: 27,
+            return Report {
+                number: number::WRONG_RECORD,
                 count: i,
                 answer: a,
             };
@@ -53,7 +53,7 @@ fn replay_records(b: Bank, store: &mut [u32], records: &[u8], n: usize) -> Told
         bank = out.bank;
         a = out.answer;
     }
-    Told {
+    Report {
         number: 0,
         count: n,
         answer: a,

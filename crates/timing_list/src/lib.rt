@@ -1,6 +1,6 @@
-// What the benchmark times: a section of a trace by one call in place. The bank lives inside the exported function, which
-// can take no reference that leads to an enum. A crate of its own: the loop is then the only caller of the step, and has
-// it inlined.
+// What the benchmark of bench/ times, exported: a section of a trace by one call in place. The bank is a local of the
+// exported function, which can take no reference that leads to an enum. A crate of its own, so that the loop is the
+// only caller of the step and has it inlined.
 ghost use mathlib.Core.Path.{_≡_};
 ghost use mathlib.Core.List.{[]};
 ghost use Prim.Native.Nat.{_%_, _^_};
@@ -12,7 +12,7 @@ ghost use Rattle.timing.specs.Timing.{freshOf, keptIn};
 use bank::Bank;
 use replayed::Replayed;
 
-// The section in place on a bank in a local. Whoever calls this needs no walk.
+// A replay in place on a bank in a local. A function of its own: only this one has a proof by hand.
 fn replay_once(b: Bank, store: &mut [u32], file: &[u8], i: u32, limit: usize) -> Replayed
     ensures { λ r. ⌜ replayedOut r (now (store .exit)) ≡ replayOf (now (file .entry)) i limit (controller b (now (store .entry)) []) ⌝ }
 {

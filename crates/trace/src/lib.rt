@@ -1,4 +1,5 @@
-// A trace file of 02: the look-up of a section, and what the first bytes tell.
+// Trace files: the look-up of a section, as a part of the lent bytes (`trace.section`, `trace.refused`), and what the
+// first bytes tell a reader that has no more yet. It knows no record.
 ghost use mathlib.Core.Path.{_≡_};
 ghost use Prim.Native.Nat.{_+_, _*_, _≤_};
 ghost use lib.ListN.{length};
@@ -6,7 +7,7 @@ ghost use Rattle.trace_model.specs.Format.{sections, lookNumber, sectionStart, 
 ghost use Rattle.trace_model.specs.Head.{tableTold, countTold, headOf};
 use trace_model::Head;
 
-// The number of asking for section i: 24, 25, 26, or 0.
+// The number of asking for section i: 24, 25, 26, or 0 (`trace.refused`).
 pub fn look_up(file: &[u8], i: u32) -> u32
     ensures { λ r. ⌜ r ≡ lookNumber (now (file .entry)) i ⌝ }
 {
@@ -17,10 +18,10 @@ pub fn look_up(file: &[u8], i: u32) -> u32
     if i < little_endian::two_at(file, 4) {
         return 0;
     }
-    26
+    number::NO_SUCH_SECTION
 }
 
-// The records of section i, as a part of the file; none where the number is not 0.
+// The records of section i, as a part of the file; none where the number is not 0 (`trace.section`).
 pub fn section(file: &[u8], i: u32) -> &[u8]
     ensures { λ r. ⌜ now r ≡ section (now (file .entry)) i ⌝ }
     ensures uncopied { λ r. ⌜ (r .ptr .0 ≡ file .entry .ptr .0) × (r .ptr .1 ≡ sectionStart (now (file .entry)) i + file .entry .ptr .1) ⌝ }
@@ -43,7 +44,7 @@ pub fn section_start(file: &[u8], i: u32) -> u32
     trace_table::start_at(file, i)
 }
 
-// The table, all of it there.
+// What a table of `n` sections tells that is there as a whole.
 fn table_told(bytes: &[u8], n: u32) -> Head
     requires { ⌜ (n ≡ sections (now bytes)) × (n ≤ 64) × (6 + 8 * n ≤ length (now bytes)) ⌝ }
     ensures { λ r. ⌜ r ≡ tableTold (now (bytes .entry)) ⌝ }
@@ -51,26 +52,26 @@ fn table_told(bytes: &[u8], n: u32) -> Head
     let t = trace_table::walk(bytes, n);
     let end = t.end;
     if !t.right {
-        return Head::Wrong(25);
+        return Head::Wrong(number::WRONG_TABLE);
     }
     if 0x100_0000 < end {
-        return Head::Wrong(25);
+        return Head::Wrong(number::WRONG_TABLE);
     }
     let len = 6 + 8 * (n as usize);
     Head::Right(len, (end as usize - len) / 12)
 }
 
-// The count of sections, and what follows it.
+// What the count of sections tells, and the table where it is there.
 fn count_told(bytes: &[u8]) -> Head
     requires { ⌜ 6 ≤ length (now bytes) ⌝ }
     ensures { λ r. ⌜ r ≡ countTold (now (bytes .entry)) ⌝ }
 {
     let n = little_endian::two_at(bytes, 4);
     if n < 1 {
-        return Head::Wrong(25);
+        return Head::Wrong(number::WRONG_TABLE);
     }
     if 64 < n {
-        return Head::Wrong(25);
+        return Head::Wrong(number::WRONG_TABLE);
     }
     if bytes.len() < 6 + 8 * (n as usize) {
         return Head::More;
@@ -78,7 +79,7 @@ fn count_told(bytes: &[u8]) -> Head
     table_told(bytes, n)
 }
 
-// What the bytes of a file tell of it, as far as they go.
+// What the first bytes of a file tell.
 pub fn read_head(bytes: &[u8]) -> Head
     ensures { λ r. ⌜ r ≡ headOf (now (bytes .entry)) ⌝ }
 {
@@ -86,7 +87,7 @@ pub fn read_head(bytes: &[u8]) -> Head
         return Head::More;
     }
     if !trace_table::marked(bytes) {
-        return Head::Wrong(24);
+        return Head::Wrong(number::WRONG_MARK);
     }
     if bytes.len() < 6 {
         return Head::More;

@@ -10,7 +10,7 @@ use lib.ListN.{length}
 use borrow.Author.Tests.{lt-ltb, le-ltb, le-leb, lt-leb, leb-true, ltb-false, not-true, not-false}
 use Rattle.trace_model.specs.declared.Head.{Head}
 use Rattle.trace_model.specs.declared.Head.the-variants.{More, Wrong, Right}
-use Rattle.trace_model.specs.Format.{mark, opens, sections, records, placeOf, startsRight}
+use Rattle.trace_model.specs.Format.{mark, beginsWith, sections, records, sectionPlace, startsRight}
 use Rattle.trace_model.specs.Head.{headLength, tableTold, countTold, headOf}
 use Rattle.trace_model.proofs.Table.{and-true}
 
@@ -20,15 +20,15 @@ and-false false = refl
 
 module _ (bytes : List ℕ) (n : ℕ) (is : n ≡ sections bytes) where
   abbrev table : ℕ → Head
-  table k = cond (startsRight bytes k && leb (placeOf bytes k) 0x1000000) (Right (6 + 8 * k) (records bytes k)) (Wrong 25)
+  table k = cond (startsRight bytes k && leb (sectionPlace bytes k) 0x1000000) (Right (6 + 8 * k) (records bytes k)) (Wrong 25)
 
   pub starts-wrong : (r : Bool) → r ≡ startsRight bytes n → not r ≡ true → Wrong 25 ≡ tableTold bytes
   starts-wrong r e f = rw (sym is, sym e, not-true r f)
 
-  pub too-large : (end : ℕ) → end ≡ placeOf bytes n → 0x1000000 < end → Wrong 25 ≡ tableTold bytes
+  pub too-large : (end : ℕ) → end ≡ sectionPlace bytes n → 0x1000000 < end → Wrong 25 ≡ tableTold bytes
   too-large end e h = let y : Wrong 25 ≡ table n = rw (sym e, lt-leb _ _ h, and-false (startsRight bytes n)) in y ∙ ap table is
 
-  pub table-right : (r : Bool) (end k : ℕ) → r ≡ startsRight bytes n → not r ≡ false → end ≡ placeOf bytes n → end ≤ 0x1000000 → k ≡ (end - (6 + 8 * n)) / 12
+  pub table-right : (r : Bool) (end k : ℕ) → r ≡ startsRight bytes n → not r ≡ false → end ≡ sectionPlace bytes n → end ≤ 0x1000000 → k ≡ (end - (6 + 8 * n)) / 12
       → Right (6 + 8 * n) k ≡ tableTold bytes
   table-right r end k e t f h g =
       let z : k ≡ records bytes n = omega (arith, f, g) in
@@ -54,16 +54,16 @@ module _ (bytes : List ℕ) where
   pub mark-cut : length bytes < 4 → More ≡ headOf bytes
   mark-cut h = rw (lt-ltb _ _ h)
 
-  pub mark-wrong : (m : Bool) → 4 ≤ length bytes → m ≡ opens mark bytes → not m ≡ true → Wrong 24 ≡ headOf bytes
+  pub mark-wrong : (m : Bool) → 4 ≤ length bytes → m ≡ beginsWith mark bytes → not m ≡ true → Wrong 24 ≡ headOf bytes
   mark-wrong m h e f = rw (le-ltb _ _ h, sym e, not-true m f)
 
-  pub count-cut : (m : Bool) → 4 ≤ length bytes → m ≡ opens mark bytes → not m ≡ false → length bytes < 6 → More ≡ headOf bytes
+  pub count-cut : (m : Bool) → 4 ≤ length bytes → m ≡ beginsWith mark bytes → not m ≡ false → length bytes < 6 → More ≡ headOf bytes
   count-cut m h e t k = rw (le-ltb _ _ h, sym e, not-false m t, lt-ltb _ _ k)
 
-  pub count-there : (m : Bool) → m ≡ opens mark bytes → not m ≡ false → 6 ≤ length bytes → countTold bytes ≡ headOf bytes
+  pub count-there : (m : Bool) → m ≡ beginsWith mark bytes → not m ≡ false → 6 ≤ length bytes → countTold bytes ≡ headOf bytes
   count-there m e t h = rw (le-ltb _ _ (let y : 4 ≤ length bytes = omega (arith, h) in y), sym e, not-false m t, le-ltb _ _ h)
 
--- ── What a reader may count on ────────────────────────────────────────────────────────────────────────────────
+-- ── What follows for a reader ─────────────────────────────────────────────────────────────────────────────────
 by-test : {X : Type 0} (b : Bool) → (b ≡ true → X) → (b ≡ false → X) → X
 by-test true t f = t refl
 by-test false t f = f refl
@@ -91,7 +91,7 @@ module _ (bytes : List ℕ) where
   count-more h =
       let n = sections bytes in
       by-test (leb 1 n && leb n 64)
-      (λ t. let m : n ≤ 64 = leb-true n 64 (and-true (leb 1 n) (leb n 64) t .1) in rw (t, le-ltb (length bytes) (6 + 8 * n) (omega (arith, h, m))) (told-more (startsRight bytes n && leb (placeOf bytes n) 0x1000000) (headLength bytes) (records bytes n)))
+      (λ t. let m : n ≤ 64 = leb-true n 64 (and-true (leb 1 n) (leb n 64) t .1) in rw (t, le-ltb (length bytes) (6 + 8 * n) (omega (arith, h, m))) (told-more (startsRight bytes n && leb (sectionPlace bytes n) 0x1000000) (headLength bytes) (records bytes n)))
       (λ f. rw f)
 
   count-length : lengthIn (countTold bytes) ≤ length bytes
@@ -100,12 +100,12 @@ module _ (bytes : List ℕ) where
       by-test (leb 1 n && leb n 64)
       (λ t. by-test (ltb (length bytes) (6 + 8 * n))
       (λ u. rw (t, u) (let z : 0 ≤ length bytes = omega arith in z))
-      (λ u. rw (t, u) (told-length (startsRight bytes n && leb (placeOf bytes n) 0x1000000) (headLength bytes) (records bytes n) (ltb-false (length bytes) (6 + 8 * n) u))))
+      (λ u. rw (t, u) (told-length (startsRight bytes n && leb (sectionPlace bytes n) 0x1000000) (headLength bytes) (records bytes n) (ltb-false (length bytes) (6 + 8 * n) u))))
       (λ f. rw f (let z : 0 ≤ length bytes = omega arith in z))
 
   head-more : 518 ≤ length bytes → isMore (headOf bytes) ≡ false
   head-more h =
-      by-test (opens mark bytes)
+      by-test (beginsWith mark bytes)
       (λ t. rw (le-ltb (length bytes) 4 (omega (arith, h)), t, le-ltb (length bytes) 6 (omega (arith, h))) (count-more h))
       (λ f. rw (le-ltb (length bytes) 4 (omega (arith, h)), f))
 
@@ -113,7 +113,7 @@ module _ (bytes : List ℕ) where
   head-length =
       let none : 0 ≤ length bytes = omega arith in
       by-test (ltb (length bytes) 4) (λ s. rw s none)
-      (λ s. by-test (opens mark bytes)
+      (λ s. by-test (beginsWith mark bytes)
       (λ t. by-test (ltb (length bytes) 6) (λ u. rw (s, t, u) none) (λ u. rw (s, t, u) count-length))
       (λ f. rw (s, f) none))
 

@@ -1,4 +1,4 @@
--- Where the sections of a right table lie.
+-- Where the sections of a right table lie (`trace.section`).
 use Prim.Native.Nat.{ℕ, zero, suc, _+_, _-_, _*_, _<_, _≤_}
 use native.Mathlib.Omega.{arith}
 use native.Mathlib.Decide.{decLt}
@@ -9,16 +9,16 @@ use lib.Dec.{eqb, ltb}
 use lib.ListN.{length, take, drop, length-drop}
 use lib.Seq.{length-take-le}
 use borrow.Author.Tests.{eqb-true, eqb-false, eq-eqb, ne-eqb, ltb-true}
-use Rattle.trace_model.specs.Format.{sections, startAt, countAt, records, placeOf, startsRight, fault, lookNumber, sectionStart, section}
+use Rattle.trace_model.specs.Format.{sections, startAt, countAt, records, sectionPlace, startsRight, fault, lookNumber, sectionStart, section}
 use Rattle.trace_model.proofs.Table.{Right, and-true, sound}
 
 -- a start of the table is the section's place
-pub start-right : (file : List ℕ) (n i : ℕ) → startsRight file n ≡ true → i < n → startAt file i ≡ placeOf file i
+pub start-right : (file : List ℕ) (n i : ℕ) → startsRight file n ≡ true → i < n → startAt file i ≡ sectionPlace file i
 unfolding startsRight
 start-right file zero i e h = absurd (omega arith)
 start-right file (suc n) i e h =
-    let z = and-true (startsRight file n) (eqb (startAt file n) (placeOf file n)) e in
-    elim (decLt i n) [ yes l ↦ start-right file n i (z .0) l | no k ↦ subst (λ (j : ℕ). startAt file j ≡ placeOf file j) (let y : n ≡ i = omega arith in y) (eqb-true _ _ (z .1)) ]
+    let z = and-true (startsRight file n) (eqb (startAt file n) (sectionPlace file n)) e in
+    elim (decLt i n) [ yes l ↦ start-right file n i (z .0) l | no k ↦ subst (λ (j : ℕ). startAt file j ≡ sectionPlace file j) (let y : n ≡ i = omega arith in y) (eqb-true _ _ (z .1)) ]
 
 -- a section's records are among all
 pub records-before : (file : List ℕ) (n i : ℕ) → i < n → records file i + countAt file i ≤ records file n
@@ -54,7 +54,7 @@ entry file i e =
     let h = f .1 in
     omega arith
 
--- what is handed back: nothing, or the stretch of the table's entry
+-- what a look-up gives: no byte, or the part of the file that the entry tells
 pub refused : (file : List ℕ) (i x : ℕ) → x ≡ lookNumber file i → (x ≡ 0 → ⊥) → ([] ≡ section file i) × (0 ≡ sectionStart file i)
 unfolding section sectionStart
 refused file i x e h =

@@ -8,7 +8,7 @@ use mathlib.Core.List.{List, [], _∷_}
 use lib.Dec.{eqb, leb}
 use lib.ListN.{length, getD}
 use borrow.Author.Tests.{leb-true, le-leb, eqb-true}
-use Rattle.trace_model.specs.Format.{mark, opens, sections, startAt, countAt, records, placeOf, startsRight, tableRight, fault}
+use Rattle.trace_model.specs.Format.{mark, beginsWith, sections, startAt, countAt, records, sectionPlace, startsRight, tableRight, fault}
 
 pub and-true : (a b : Bool) → (a && b) ≡ true → (a ≡ true) × (b ≡ true)
 and-true true b e = (refl, e)
@@ -25,18 +25,18 @@ four true true false d = refl
 four true true true false = refl
 four true true true true = refl
 
-opens-length : (m file : List ℕ) → opens m file ≡ true → length m ≤ length file
+opens-length : (m file : List ℕ) → beginsWith m file ≡ true → length m ≤ length file
 opens-length [] file e = omega arith
 opens-length (x ∷ m) [] e = absurd (false≢true e)
 opens-length (x ∷ m) (b ∷ file) e =
-    let z = opens-length m file (and-true (eqb b x) (opens m file) e .1) in
+    let z = opens-length m file (and-true (eqb b x) (beginsWith m file) e .1) in
     omega arith
 
-pub mark-short : (file : List ℕ) → length file < 4 → false ≡ opens mark file
-mark-short file h = sym (not-true (opens mark file) (λ e. let z = opens-length mark file e in omega arith))
+pub mark-short : (file : List ℕ) → length file < 4 → false ≡ beginsWith mark file
+mark-short file h = sym (not-true (beginsWith mark file) (λ e. let z = opens-length mark file e in omega arith))
 
 pub mark-bytes : (file : List ℕ) → 4 ≤ length file
-    → (eqb (getD file 0 0) 0x49 && eqb (getD file 1 0) 0x33 && eqb (getD file 2 0) 0x54 && eqb (getD file 3 0) 0x52) ≡ opens mark file
+    → (eqb (getD file 0 0) 0x49 && eqb (getD file 1 0) 0x33 && eqb (getD file 2 0) 0x54 && eqb (getD file 3 0) 0x52) ≡ beginsWith mark file
 mark-bytes [] h = absurd (omega arith)
 mark-bytes (a ∷ []) h = absurd (omega arith)
 mark-bytes (a ∷ b ∷ []) h = absurd (omega arith)
@@ -47,22 +47,22 @@ pub records-next : (file : List ℕ) (i : ℕ) → records file (i + 1) ≡ reco
 unfolding records
 records-next file i = ap (records file) (add-one i)
 
-pub starts-next : (file : List ℕ) (i : ℕ) → startsRight file (i + 1) ≡ (startsRight file i && eqb (startAt file i) (placeOf file i))
+pub starts-next : (file : List ℕ) (i : ℕ) → startsRight file (i + 1) ≡ (startsRight file i && eqb (startAt file i) (sectionPlace file i))
 unfolding startsRight
 starts-next file i = ap (startsRight file) (add-one i)
 
 -- a turn of the loop, and its end
-pub starts-turn : (file : List ℕ) (i : ℕ) (r : Bool) (start at : ℕ) → r ≡ startsRight file i → start ≡ startAt file i → at ≡ placeOf file i
+pub starts-turn : (file : List ℕ) (i : ℕ) (r : Bool) (start at : ℕ) → r ≡ startsRight file i → start ≡ startAt file i → at ≡ sectionPlace file i
     → (r && eqb start at) ≡ startsRight file (i + 1)
 starts-turn file i r start at e f g = rw (e, f, g) (sym (starts-next file i))
 
-pub place-turn : (file : List ℕ) (i count at next : ℕ) → count ≡ countAt file i → at ≡ placeOf file i → next ≡ at + 12 * count → next ≡ placeOf file (i + 1)
+pub place-turn : (file : List ℕ) (i count at next : ℕ) → count ≡ countAt file i → at ≡ sectionPlace file i → next ≡ at + 12 * count → next ≡ sectionPlace file (i + 1)
 place-turn file i count at next e f g =
     let h = records-next file i in
     omega arith
 
-pub turned : (file : List ℕ) (n i : ℕ) (r : Bool) (at : ℕ) → i ≤ n → n ≤ i → r ≡ startsRight file i → at ≡ placeOf file i → (r ≡ startsRight file n) × (at ≡ placeOf file n)
-turned file n i r at p q e f = subst (λ (k : ℕ). (r ≡ startsRight file k) × (at ≡ placeOf file k)) (let y : i ≡ n = omega arith in y) (e, f)
+pub turned : (file : List ℕ) (n i : ℕ) (r : Bool) (at : ℕ) → i ≤ n → n ≤ i → r ≡ startsRight file i → at ≡ sectionPlace file i → (r ≡ startsRight file n) × (at ≡ sectionPlace file n)
+turned file n i r at p q e f = subst (λ (k : ℕ). (r ≡ startsRight file k) × (at ≡ sectionPlace file k)) (let y : i ≡ n = omega arith in y) (e, f)
 
 -- a right table, test by test
 pub record Right (file : List ℕ) : Type 0 where
@@ -71,7 +71,7 @@ pub record Right (file : List ℕ) : Type 0 where
   pub most : sections file ≤ 64
   pub whole : 6 + 8 * sections file ≤ length file
   pub starts : startsRight file (sections file) ≡ true
-  pub ends : placeOf file (sections file) ≡ length file
+  pub ends : sectionPlace file (sections file) ≡ length file
   pub size : length file ≤ 0x1000000
 
 pub right : (file : List ℕ) → tableRight file ≡ true → Right file
@@ -83,7 +83,7 @@ right file e =
     let c = leb n 64 in
     let d = leb (6 + 8 * n) (length file) in
     let s = startsRight file n in
-    let g = eqb (placeOf file n) (length file) in
+    let g = eqb (sectionPlace file n) (length file) in
     let z6 = and-true (a && b && c && d && s && g) (leb (length file) 0x1000000) e in
     let z5 = and-true (a && b && c && d && s) g (z6 .0) in
     let z4 = and-true (a && b && c && d) s (z5 .0) in
@@ -105,7 +105,7 @@ wrong file h = sym (not-true (tableRight file) (λ e. h (right file e)))
 
 -- past the tests of the lengths
 pub measured : (file : List ℕ) (n : ℕ) (r : Bool) (end : ℕ) → n ≡ sections file → 6 ≤ length file → 1 ≤ n → n ≤ 64 → 6 + 8 * n ≤ length file
-    → r ≡ startsRight file n → end ≡ placeOf file n → (r && eqb end (length file) && leb (length file) 0x1000000) ≡ tableRight file
+    → r ≡ startsRight file n → end ≡ sectionPlace file n → (r && eqb end (length file) && leb (length file) 0x1000000) ≡ tableRight file
 unfolding tableRight
 measured file n r end e h l m w f g = rw (f, g, e, le-leb _ _ h, le-leb _ _ (subst (λ (k : ℕ). 1 ≤ k) e l), le-leb _ _ (subst (λ (k : ℕ). k ≤ 64) e m), le-leb _ _ (subst (λ (k : ℕ). 6 + 8 * k ≤ length file) e w)) refl
 
@@ -117,4 +117,4 @@ sound-bools false b e = absurd (omega arith)
 -- a file without a fault has a right table
 pub sound : (file : List ℕ) → fault file ≡ 0 → Right file
 unfolding fault
-sound file e = right file (sound-bools (opens mark file) (tableRight file) e)
+sound file e = right file (sound-bools (beginsWith mark file) (tableRight file) e)

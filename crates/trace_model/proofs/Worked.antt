@@ -1,4 +1,4 @@
--- Files by hand: two sections, of no record and of one, and one thing wrong at a time.
+-- Files worked by hand: two sections, of no record and of one; and the same with one fault each.
 use Prim.Native.Nat.{ℕ}
 use mathlib.Core.Path.{_≡_, refl}
 use mathlib.Core.List.{List, [], _∷_, _++_}

@@ -1,5 +1,6 @@
-// A trace file of 02, as definitions: its format, the look-up of a section, what the first bytes tell. proofs/ has the
-// laws. No function is here.
+// Trace files, 02 §1, as definitions: the format (`trace.form`), the look-up of a section (`trace.section`,
+// `trace.refused`), what the first bytes tell; and their laws. It knows bytes, and not what a record says. The only
+// code is the type of what the first bytes tell.
 
 // What the first bytes of a file tell.
 pub enum Head {

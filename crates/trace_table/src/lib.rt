@@ -1,12 +1,13 @@
-// Mark and table of a trace file: whether they are right, and what an entry says. Layers, no interface.
+// Mark and table of a trace file (`trace.form`): whether they are right, and what an entry says. It knows the file's
+// bytes, and no record. Layers: the caller has to know that an entry lies inside the file.
 ghost use mathlib.Core.Path.{_≡_};
 ghost use Prim.Native.Nat.{_+_, _*_, _<_, _≤_};
 ghost use lib.ListN.{length};
-ghost use Rattle.trace_model.specs.Format.{mark, opens, sections, startAt, countAt, placeOf, startsRight, tableRight, fault};
+ghost use Rattle.trace_model.specs.Format.{mark, beginsWith, sections, startAt, countAt, sectionPlace, startsRight, tableRight, fault};
 
 // Whether the file opens with the mark.
 pub fn marked(file: &[u8]) -> bool
-    ensures { λ r. ⌜ r ≡ opens mark (now (file .entry)) ⌝ }
+    ensures { λ r. ⌜ r ≡ beginsWith mark (now (file .entry)) ⌝ }
 {
     let mark = b"I3TR";
     if file.len() < 4 {
@@ -30,7 +31,7 @@ pub fn count_at(file: &[u8], i: u32) -> u32
     little_endian::four_at(file, 10 + 8 * (i as usize))
 }
 
-// Where so many records end.
+// The place behind so many records of 12 bytes, the first of which is at `start`.
 pub fn past(start: u64, records: u32) -> u64
     requires { ⌜ start < 281474976710656 ⌝ }
     ensures { λ r. ⌜ r ≡ start + 12 * records ⌝ }
@@ -38,15 +39,16 @@ pub fn past(start: u64, records: u32) -> u64
     start + 12 * (records as u64)
 }
 
-// Whether the starts are right, and where the last section ends.
+// Whether the starts of a table are right, and where its last section ends.
 pub struct Walked {
     pub right: bool,
     pub end: u64,
 }
 
+// The starts of a table of `n` sections, one after another.
 pub fn walk(file: &[u8], n: u32) -> Walked
     requires { ⌜ (n ≡ sections (now file)) × (n ≤ 64) × (6 + 8 * n ≤ length (now file)) ⌝ }
-    ensures { λ r. ⌜ (r .right ≡ startsRight (now (file .entry)) n) × (r .end ≡ placeOf (now (file .entry)) n) ⌝ }
+    ensures { λ r. ⌜ (r .right ≡ startsRight (now (file .entry)) n) × (r .end ≡ sectionPlace (now (file .entry)) n) ⌝ }
 {
     let mut right = true;
     let mut at: u64 = 6 + 8 * (n as u64);
@@ -81,15 +83,15 @@ fn table_right(file: &[u8]) -> bool
     t.right & (t.end == file.len() as u64) & (file.len() <= 0x100_0000)
 }
 
-// What is wrong with the file: 24, 25, or 0.
+// The number of the file as a whole: 24, 25, or 0 (`trace.refused`).
 pub fn fault(file: &[u8]) -> u32
     ensures { λ r. ⌜ r ≡ fault (now (file .entry)) ⌝ }
 {
     if !marked(file) {
-        return 24;
+        return number::WRONG_MARK;
     }
     if !table_right(file) {
-        return 25;
+        return number::WRONG_TABLE;
     }
     0
 }

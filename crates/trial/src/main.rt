@@ -1,5 +1,5 @@
-// A session for tests: 01's lines, lines that set up another bank, and lines of offload bursts. So the model is run at
-// every capacity and watermark, on stores with old contents, and with outputs of every length.
+// A program for tests: a session (`session.lines`) with lines that set up another bank and lines of offload bursts, so
+// that the model is run at every capacity and watermark, on stores with old contents, and with outputs of every length.
 ghost use Prim.Native.Nat.{_+_, _*_, _≤_};
 ghost use lib.ListN.{length};
 use answer::Out;
@@ -11,7 +11,7 @@ use lines::Reading;
 use model::Call;
 
 // ── A line, byte by byte ───────────────────────────────────────────────────────────────────────────────────────
-// Set-up: `B`, five capacities, five watermarks and the ID, one space between fields.
+// Set-up: `B`, then its eleven numbers, with one space before each.
 const SET_UP: u8 = b'B';
 
 // The trigger of an offload burst.
@@ -28,7 +28,7 @@ const DEAD: u8 = 1;
 
 // A line so far.
 struct Line {
-    // The letter and the field at hand, read by `lines` as those of a call are.
+    // The letter and the field that is being read, as `lines` reads those of a call.
     reading: Reading,
     // Of a set-up, which field that is, and the values of those before it. The letter is field 0 and takes no digit.
     at: usize,
@@ -210,7 +210,7 @@ fn call(board: Board, store: &mut [u32], c: Call) -> Ended {
     answered(next, y.answer)
 }
 
-// A line of 01.
+// A line that a session has too.
 fn session_line(board: Board, store: &mut [u32], r: Reading) -> Ended {
     match lines::named(r) {
         Parsed::Named(c) => call(board, store, c),
@@ -238,7 +238,7 @@ fn show(board: Board, place: u32) -> Ended {
     answered(board, a)
 }
 
-// A line ends, at a newline or at the end of the input.
+// A line is closed, by a newline or by the end of the input.
 fn end_line(board: Board, store: &mut [u32], line: Line) -> Ended {
     let r = line.reading;
     match named(line) {
@@ -265,14 +265,14 @@ fn put(said: bool, a: Answer, out: &mut [u8], at: usize) -> usize
 }
 
 // The board and the line so far, and how many bytes of the text are filled.
-struct Fed {
+struct Pieces {
     board: Board,
     line: Line,
     count: usize,
 }
 
 // A piece of the input. The text has room for a line a byte.
-fn feed(board: Board, store: &mut [u32], line: Line, piece: &[u8], out: &mut [u8]) -> Fed
+fn feed(board: Board, store: &mut [u32], line: Line, piece: &[u8], out: &mut [u8]) -> Pieces
     requires { ⌜ 12 * length (now piece) ≤ length (now out) ⌝ }
     ensures { λ r. ⌜ r .count ≤ length (now (out .exit)) ⌝ }
 {
@@ -290,7 +290,7 @@ fn feed(board: Board, store: &mut [u32], line: Line, piece: &[u8], out: &mut [u8
         count = put(e.said, e.answer, out, count);
         so_far = begin();
     }
-    Fed {
+    Pieces {
         board: after,
         line: so_far,
         count: count,
@@ -298,7 +298,7 @@ fn feed(board: Board, store: &mut [u32], line: Line, piece: &[u8], out: &mut [u8
 }
 
 // The board and the line so far; whether there may be more to read; whether all text was written.
-struct Went {
+struct Turn {
     board: Board,
     line: Line,
     more: bool,
@@ -306,13 +306,13 @@ struct Went {
 }
 
 // The next piece of the input.
-fn turn(board: Board, line: Line, store: &mut [u32], out: &mut [u8]) -> Went
+fn turn(board: Board, line: Line, store: &mut [u32], out: &mut [u8]) -> Turn
     requires { ⌜ 49152 ≤ length (now out) ⌝ }
 {
     let mut piece = [0u8; 4096];
     let got = libc::read(0, &mut piece);
     if got <= 0 {
-        return Went {
+        return Turn {
             board: board,
             line: line,
             more: false,
@@ -325,7 +325,7 @@ fn turn(board: Board, line: Line, store: &mut [u32], out: &mut [u8]) -> Went
     let ok = io::write_all(1, &out[..m]);
     let next = f.board;
     let rest = f.line;
-    Went {
+    Turn {
         board: next,
         line: rest,
         more: ok,

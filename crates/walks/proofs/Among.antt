@@ -1,5 +1,7 @@
--- A rule about the first entries of a context, used on entries that stand apart: `among ! π r` takes the entries at the positions π to the head, where r is about them, and puts what r makes of them back to these positions.
--- The positions fall, so that none of them changes when an entry before it in π is taken out. Locals stand in a context from the last to the first: r is about them from the first to the last.
+-- A rule about the first entries of a context, used on entries that stand apart: `among ! π r` takes the entries at the positions π to the
+-- head, where r is about them, and puts what r makes of them back to these positions.
+-- The positions fall, so that none of them changes when an entry before it in π is taken out. Locals stand in a context from the last to
+-- the first: r is about them from the first to the last.
 --     sink n       the first entry goes to the position n
 --     behind n     the first n entries go behind all others
 -- Assumes `Given`.

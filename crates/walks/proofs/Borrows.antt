@@ -1,6 +1,7 @@
 -- A value of a declared type behind a `&mut`, and in a local that is lent, over any such type.
 --     opened, closed       the borrow is opened, which shows the value's cell and what relates the value to it, and closed at another value
---     lends, comes-back    the local is lent for a new lifetime; and once the call has said the last value, the lifetime is ended and the local holds that
+--     lends, comes-back    the local is lent for a new lifetime; and once the call has said the last value, the lifetime is ended and the
+--                          local holds that
 -- Assumes `Given`.
 use Prim.Native.Nat.{ℕ}
 use mathlib.Core.List.{[], _∷_, List}

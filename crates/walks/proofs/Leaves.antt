@@ -1,5 +1,6 @@
 -- The end of a body: the locals, each of which holds a value, are freed. Over any types and values.
---     freed ! (local ! (local ! .. (none !)))    a `local` for each of them, from the result on; their cells are the head of the context, as they were allocated
+--     freed ! (local ! (local ! .. (none !)))    a `local` for each of them, from the result on; their cells are the head of the context,
+--                                                as they were allocated
 -- Assumes `Given`.
 use mathlib.Core.Path.{refl}
 use mathlib.Core.List.{[], _∷_, List}

@@ -1,6 +1,9 @@
--- Statements of a call in place, or on a local that is lent, over any types, values and locals: with a bank's type and value written out at each statement the kernel compares them whole.
---     relends          a slice is lent on: its pointer goes into a local, and with the count into another, which then holds the slice's own value
---     copies, hands    what lies behind the pointer in the local 1, the first parameter, is copied into a local; and at the end the two fields of a struct in a local go behind the pointer and into the result
+-- Statements of a call in place, or on a local that is lent, over any types, values and locals: with a bank's type and value written out at
+-- each statement the kernel compares them whole.
+--     relends          a slice is lent on: its pointer goes into a local, and with the count into another, which then holds the slice's own
+--                      value
+--     copies, hands    what lies behind the pointer in the local 1, the first parameter, is copied into a local; and at the end the two
+--                      fields of a struct in a local go behind the pointer and into the result
 --     gets             what a call gave goes into a local, which then holds the machine value that the type's relation tells
 --     packs            a local's value is copied, and with what the call gave it becomes the result, a struct of the two
 -- Assumes `Given`.

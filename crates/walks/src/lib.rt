@@ -1,1 +1,2 @@
-// Rules for walks of MIR by hand, over any types, values and locals. A crate of proofs alone: it has no code.
+// Rules for proofs that walk through MIR by hand, as calls in place need them, over any types, values and locals.
+// Proofs alone: no code, and nothing of the controller.

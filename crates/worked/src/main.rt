@@ -1,6 +1,6 @@
-// Runs 01's worked session, 004's examples of payload words, and address words with both values of the parity bit for
-// all 128 addresses, on the interface. Prints answers, one a line: all those of the session, then of each example those
-// that it is about. Every call is lent an empty output: there is no burst.
+// A program that runs worked examples on the interface: 01's session, 004's payload words, and address words with both
+// parity bits for all 128 addresses. It prints answers, one a line: all those of the session, then of each example
+// those that it is about. Every call is lent an empty output: there is no burst.
 ghost use Prim.Native.Nat.{_<_};
 use bank::Bank;
 use model::Call;
@@ -26,7 +26,7 @@ struct Board {
     store: [u32; 20],
 }
 
-// The bank of 01's session, and its store.
+// The session's bank (`session.bank`), and its store.
 fn fresh() -> Board {
     let b = setup::session_bank();
     Board {
@@ -61,7 +61,7 @@ fn say(board: Board, call: Call) -> Board {
     }
 }
 
-// 01, section 'A session'.
+// The worked session of 01, 'A session'.
 fn session() {
     let mut board = fresh();
     board = say(board, Call::Write(ENABLE, 0));
@@ -85,7 +85,7 @@ fn started(command: u32) -> Board {
     run(board, Call::Start)
 }
 
-// 004, section 'SDI and SDO': the first row of the SDO table, a write of four bytes.
+// 004, 'SDI and SDO': the first row of the SDO table, a write of four bytes.
 fn sent() {
     let mut board = started(0x410);
     board = run(board, Call::Write(SDO, 0x7856_3412));
@@ -95,7 +95,7 @@ fn sent() {
     say(board, Call::Send);
 }
 
-// 004, section 'SDI and SDO': the SDI table, a read of five bytes.
+// 004, 'SDI and SDO': the SDI table, a read of five bytes.
 fn received() {
     let mut board = started(0x511);
     board = run(board, Call::Receive(0));
@@ -115,7 +115,7 @@ fn word(address: u32, parity: u32) -> u32
     address * 0x0200_0000 + parity * 0x0100_0000
 }
 
-// One device takes an address: 004, section 'Dynamic Address Assignment'.
+// One device takes an address (`take.address`): 004, 'Dynamic Address Assignment'.
 fn assigned(word: u32) {
     let mut board = fresh();
     board = run(board, Call::Write(ENABLE, 0));

@@ -1,10 +1,11 @@
-// Writes to registers that hold a value: it is kept in the bits that the map names.
+// Register writes that keep a value, as decisions, in the bits that the map names (`map.bits`). Each knows its own
+// register, and whether an open burst holds it.
 ghost use mathlib.Core.Path.{_≡_};
 ghost use mathlib.Core.Bool.{cond};
 ghost use Prim.Native.Nat.{_%_, _^_};
 ghost use lib.Dec.{eqb};
 ghost use Rattle.registers.specs.declared.Register.the-variants.{Scratch, IrqMask, Ops, IbiConfig, DevChar, OffloadCmd, OffloadSdo};
-ghost use Rattle.bank.specs.Bits.{weigh};
+ghost use Rattle.bank.specs.Bits.{wordIf};
 ghost use Rattle.bank.specs.Bursts.{bursting};
 ghost use Rattle.model.specs.View.{Tables};
 ghost use Rattle.model.specs.Decision.{keepAll, unchanged, _withNumber_, _withRegs_};
@@ -14,7 +15,6 @@ ghost use Rattle.effect.specs.Seen.{Fronts, seen};
 use bank::Control;
 use bank::Regs;
 use bank::State;
-use bank::bursts;
 use effect::Effect;
 use effect::Table;
 
@@ -28,7 +28,7 @@ fn put_regs(st: State, g: Regs, n: u32) -> Effect
     effect::done(st, 0, n, g, c, p, o)
 }
 
-// SCRATCH, IRQ_MASK, IBI_CONFIG and OPS keep the bits that the map names for them.
+// SCRATCH (`scratch.keeps`).
 pub fn write_scratch(st: State, x: u32) -> Effect
     ensures { λ e. ⌜ ((t : Tables) (f : Fronts) → effectOf e t ≡ verdict (λ v. write (row Scratch) v x) (seen st t f)) ⌝ }
 {
@@ -37,14 +37,16 @@ pub fn write_scratch(st: State, x: u32) -> Effect
     put_regs(st, g, 0)
 }
 
+// IRQ_MASK (`mask.keeps`).
 pub fn write_mask(st: State, x: u32) -> Effect
     ensures { λ e. ⌜ ((t : Tables) (f : Fronts) → effectOf e t ≡ verdict (λ v. write (row IrqMask) v x) (seen st t f)) ⌝ }
 {
     let mut g = st.regs;
-    g.mask = (x % 256) as u8;
+    g.mask = (x % 0x100) as u8;
     put_regs(st, g, 0)
 }
 
+// IBI_CONFIG (`ibi-config.keeps`).
 pub fn write_config(st: State, x: u32) -> Effect
     ensures { λ e. ⌜ ((t : Tables) (f : Fronts) → effectOf e t ≡ verdict (λ v. write (row IbiConfig) v x) (seen st t f)) ⌝ }
 {
@@ -53,21 +55,22 @@ pub fn write_config(st: State, x: u32) -> Effect
     put_regs(st, g, 0)
 }
 
-// The number of a write to OPS or an offload memory. An open burst runs by these, so the write is then dropped whole.
+// The number of a write to OPS or an offload memory: 6 while a burst is open, which runs by these (`burst.holds`).
 fn burst_number(c: Control) -> u32
-    ensures { λ n. ⌜ n ≡ weigh (bursting c) 6 ⌝ }
+    ensures { λ n. ⌜ n ≡ wordIf (bursting c) 6 ⌝ }
 {
-    bank::select(bursts::is_bursting(c), 6, 0)
+    bank::select(burst_commands::is_bursting(c), number::TRANSFER_OPEN, 0)
 }
 
-// OPS after a write, where it comes; else as it was.
+// OPS after a write where `comes` holds (`ops.keeps`); else as it was.
 fn ops_if(ops: u8, comes: bool, x: u32) -> u8
     ensures { λ r. ⌜ r ≡ cond comes (x % 2 ^ 7) ops ⌝ }
 {
-    let new = (x % 128) as u8;
+    let new = (x % 0x80) as u8;
     if comes { new } else { ops }
 }
 
+// OPS (`ops.keeps`).
 pub fn write_ops(st: State, x: u32) -> Effect
     ensures { λ e. ⌜ ((t : Tables) (f : Fronts) → effectOf e t ≡ verdict (λ v. write (row Ops) v x) (seen st t f)) ⌝ }
 {
@@ -77,23 +80,23 @@ pub fn write_ops(st: State, x: u32) -> Effect
     put_regs(st, g, n)
 }
 
-// DEV_CHAR: every write selects the address; the flags are stored with bit 8 only.
+// DEV_CHAR: `dev-char.select`, `dev-char.flags`.
 pub fn write_device(st: State, x: u32) -> Effect
     ensures { λ e. ⌜ ((t : Tables) (f : Fronts) → effectOf e t ≡ verdict (λ v. write (row DevChar) v x) (seen st t f)) ⌝ }
 {
     let mut g = st.regs;
-    g.selected = (x / 512 % 128) as u8;
+    g.selected = (x / 0x200 % 0x80) as u8;
     let c = st.control;
     let p = st.phase;
     let o = effect::none();
     let t = effect::table_if(
-        x / 256 % 2 == 1,
-        Table::Flags(x / 512 % 128, (x / 2 % 8) as u8),
+        x / 0x100 % 2 == 1,
+        Table::Flags(x / 0x200 % 0x80, (x / 2 % 8) as u8),
     );
     effect::done_with(st, 0, 0, g, c, p, o, t)
 }
 
-// A write of one word of an offload memory.
+// A write of one word of an offload memory (`offload.keeps`), with its number.
 fn put_entry(st: State, n: u32, t: Table) -> Effect
     ensures { λ e. ⌜ ((x : Tables) → effectOf e x ≡ record { value = 0; number = n; regs = st .regs; control = st .control; phase = st .phase; tables = cond (eqb n 0) (tablesBy t x) x; ops = keepAll }) ⌝ }
 {
@@ -105,6 +108,7 @@ fn put_entry(st: State, n: u32, t: Table) -> Effect
     effect::done_with(st, 0, n, g, c, p, o, u)
 }
 
+// An offload command (`offload.keeps`).
 pub fn write_offload_cmd(st: State, i: u32, x: u32) -> Effect
     ensures { λ e. ⌜ ((t : Tables) (f : Fronts) → effectOf e t ≡ verdict (λ v. write (row (OffloadCmd i)) v x) (seen st t f)) ⌝ }
 {
@@ -112,6 +116,7 @@ pub fn write_offload_cmd(st: State, i: u32, x: u32) -> Effect
     put_entry(st, n, Table::Command(i, x))
 }
 
+// An offload data word (`offload.keeps`).
 pub fn write_offload_sdo(st: State, i: u32, x: u32) -> Effect
     ensures { λ e. ⌜ ((t : Tables) (f : Fronts) → effectOf e t ≡ verdict (λ v. write (row (OffloadSdo i)) v x) (seen st t f)) ⌝ }
 {

@@ -1,4 +1,4 @@
--- ENABLE, by its bit.
+-- A write to ENABLE, by its bit 0.
 use Prim.Native.Nat.{ℕ, _/_, _%_}
 use native.Mathlib.Omega.{arith}
 use mathlib.Core.Path.{_≡_, refl, ap, sym, _∙_}

@@ -1,4 +1,4 @@
--- The number of a push.
+-- The number of a push, over plain numbers: 5 in reset, 1 where the queue is full, else 0 (`cmd.push`, `sdo.push`).
 use Prim.Native.Nat.{ℕ}
 use mathlib.Core.Bool.{Bool, cond}
 use lib.Dec.{leb}

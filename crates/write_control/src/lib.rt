@@ -1,4 +1,5 @@
-// Writes that move queues or control bits: ENABLE, IRQ_PENDING, CMD and SDO.
+// Register writes that move queues or control bits, as decisions: ENABLE, IRQ_PENDING, CMD and SDO. Each knows its own
+// register.
 ghost use mathlib.Core.Path.{_≡_};
 ghost use mathlib.Core.Bool.{true, false};
 ghost use Rattle.registers.specs.declared.Register.the-variants.{Enable, IrqPending, CmdFifo, SdoFifo};
@@ -13,14 +14,14 @@ use bank::State;
 use effect::Effect;
 use effect::Op;
 
-// A 1 clears the pending bit at its place.
+// A 1 clears the pending bit at its place (`pending.clear`).
 fn acknowledge(c: Control, x: u32) -> Control
     ensures { λ r. ⌜ r ≡ acknowledged x c ⌝ }
 {
     let mut next = c;
     next.cmdrpending = !(x / 32 % 2 == 1) & c.cmdrpending;
-    next.ibipending = !(x / 64 % 2 == 1) & c.ibipending;
-    next.daapending = !(x / 128 % 2 == 1) & c.daapending;
+    next.ibipending = !(x / 0x40 % 2 == 1) & c.ibipending;
+    next.daapending = !(x / 0x80 % 2 == 1) & c.daapending;
     next
 }
 
@@ -34,7 +35,7 @@ pub fn write_pending(st: State, x: u32) -> Effect
     effect::done(st, 0, 0, g, c, p, o)
 }
 
-// ENABLE written 1: the registers stay.
+// ENABLE written 1 (`enable.reset`): the registers stay.
 fn reset(st: State) -> Effect
     ensures { λ e. ⌜ ((t : Tables) (f : Fronts) → effectOf e t ≡ enable (seen st t f) true) ⌝ }
 {
@@ -44,7 +45,7 @@ fn reset(st: State) -> Effect
     effect::done(st, 0, 0, g, c, Phase::Idle, o)
 }
 
-// ENABLE written 0.
+// ENABLE written 0 (`enable.release`).
 fn release(st: State) -> Effect
     ensures { λ e. ⌜ ((t : Tables) (f : Fronts) → effectOf e t ≡ enable (seen st t f) false) ⌝ }
 {
@@ -65,14 +66,19 @@ pub fn write_enable(st: State, x: u32) -> Effect
     release(st)
 }
 
-// The number of a push: 0 where no reset holds the queues and there is room.
+// The number of a push: 5 in reset, 1 where the queue is full, else 0 (`cmd.push`, `sdo.push`).
 fn push_number(held: bool, cap: u32, level: u32) -> u32
     ensures { λ n. ⌜ n ≡ pushNumber held cap level ⌝ }
 {
-    bank::select(held, 5, bank::select(cap <= level, 1, 0))
+    bank::select(
+        held,
+        number::HELD_IN_RESET,
+        bank::select(cap <= level, number::DROPPED_FULL, 0),
+    )
 }
 
-// A push: made where its number is 0, else nothing changes. It has one way out: a return for the refusal costs time.
+// A push to CMD (`cmd.push`): made where its number is 0, else nothing changes. One way out: a return of its own for
+// the refusal costs time.
 pub fn write_cmd(st: State, x: u32) -> Effect
     ensures { λ e. ⌜ ((t : Tables) (f : Fronts) → effectOf e t ≡ verdict (λ v. write (row CmdFifo) v x) (seen st t f)) ⌝ }
 {
@@ -84,7 +90,7 @@ pub fn write_cmd(st: State, x: u32) -> Effect
     effect::done(st, 0, n, g, c, p, o)
 }
 
-// A push to SDO clears the pending bit of address requests.
+// A push to SDO (`sdo.push`), which clears pending bit 7 (`source.address`).
 pub fn write_sdo(st: State, x: u32) -> Effect
     ensures { λ e. ⌜ ((t : Tables) (f : Fronts) → effectOf e t ≡ verdict (λ v. write (row SdoFifo) v x) (seen st t f)) ⌝ }
 {

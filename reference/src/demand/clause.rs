@@ -2,47 +2,37 @@
 
 use std::io::{self, Write};
 
-/// One check. "00" is the page of the demands, "01" the scope page, section
-/// "What demand 3 counts".
+/// One check. All of them are demand 3 of 00, as 01 reads it under 'What demand 3 counts'.
 #[derive(Clone, Copy, Debug, PartialEq, Eq)]
 pub enum Clause {
-    /// 00: "The bus started the first of these, in order, each once". 01: "The
-    /// n-th start answered 0 starts the n-th command; its value is that
-    /// command's first word."
+    /// Starts follow the order of the words taken, pass over no command and repeat none;
+    /// each shows its command's first word.
     StartedInOrder,
-    /// 00: "the rest still wait, in order". 01: "CMD's entries from its head are
-    /// exactly the words taken after those of the started commands, in order."
+    /// CMD holds the words of all other commands and no more.
     RestWaits,
-    /// 00: "All that started have finished, save the last while it is open." 01:
-    /// "It is open until the next finish answered 0, which finishes it."
+    /// No command starts before the finish of the one before it.
     OneOpen,
-    /// 01: "While it is open, sends are answered 0 only for a write, receives
-    /// only for a read, address requests and takes only for ENTDAA, which is
-    /// neither; the command's own words say which it is."
+    /// An event succeeds only for a command whose words ask for it: bytes sent for a write,
+    /// received for a read, addresses for ENTDAA.
     EventsOfItsKind,
-    /// 00: "Each one finished queued one receipt, in that order". 01: "Its
-    /// receipt is the value of the finish that finished it".
+    /// A finish makes a receipt, which it shows, and only for an open command.
     OneReceiptEach,
-    /// 00: "its sync the number of earlier receipts modulo 256".
+    /// The sync counts the receipts since the release, in eight bits.
     ReceiptSync,
-    /// 00: "its length the payload bytes moved for it". 01: "Bytes moved for a
-    /// command: the sends and receives answered 0 while it was open."
+    /// The length counts the sends and receives that succeeded between start and finish.
     ReceiptLength,
-    /// 00: "never above the commanded length". 01: "Commanded length: bits 19:8
-    /// of its first word, 0 for ENTDAA."
+    /// The length does not exceed what the command's words ask for.
     CommandedLength,
-    /// 01: "with that finish's code as error".
+    /// The error is the code that the finish got.
     ReceiptError,
-    /// 00: "The receipts read ... are exactly these." 01: "The values of the CMDR
-    /// reads answered 0 ... are these receipts in order."
+    /// Reads of CMDR give the receipts as they were made, one after the other.
     ReceiptsRead,
-    /// 00: "then those still queued". 01: "then CMDR's entries from its head".
+    /// CMDR holds all receipts that no read has given, and no more.
     ReceiptsQueued,
-    /// 00: "Every command word written after a read of the room above 0, made
-    /// since the release, with no other command word written between, was
-    /// taken." 01: "The room is read at 0x0c0."
+    /// Where room was seen at 0x0c0 and nothing written to CMD since, the next word is
+    /// taken.
     TakenAfterRoom,
-    /// 00: "Where each is written so, no command is missing."
+    /// A driver that writes all its words in that way loses none.
     NoneMissing,
 }
 

@@ -2,8 +2,8 @@
 
 use std::collections::VecDeque;
 
-/// What the bus does for a command. 01: "sends ... only for a write, receives only
-/// for a read, address requests and takes only for ENTDAA, which is neither".
+/// Which events a command has: sends, receives, or address requests and takes (01, 'What
+/// demand 3 counts').
 #[derive(Clone, Copy, Debug, PartialEq, Eq)]
 pub enum Kind {
     Write,
@@ -29,23 +29,22 @@ pub struct Command {
     second: Option<u32>,
 }
 
-/// 01: "Command word: 22 CCC".
+// 01, 'Commands and receipts'.
 const CCC_BIT: u32 = 1 << 22;
-/// 01: "ENTDAA is the code 0x07", "low byte the code".
 const ENTDAA_CODE: u32 = 0x07;
 
 impl Command {
-    /// 01: "the command's own words say which it is."
+    /// Nothing but the words decides.
     pub fn kind(&self) -> Kind {
         match self.second {
             Some(word) if word & 0xff == ENTDAA_CODE => Kind::Entdaa,
-            // 01: command word, "0 read".
             _ if self.first & 1 == 1 => Kind::Read,
             _ => Kind::Write,
         }
     }
 
-    /// 01: "Commanded length: bits 19:8 of its first word, 0 for ENTDAA."
+    /// How many bytes may move for it; its length field counts only where there is a payload
+    /// (01, 'What demand 3 counts').
     pub fn commanded_length(&self) -> u32 {
         match self.kind() {
             Kind::Entdaa => 0,
@@ -54,7 +53,7 @@ impl Command {
     }
 }
 
-/// The words that the command queue took and whose command has not started.
+/// Words taken by CMD whose command has not started.
 #[derive(Clone, Debug, Default, PartialEq, Eq)]
 pub struct WaitingWords {
     words: VecDeque<u32>,
@@ -69,9 +68,8 @@ impl WaitingWords {
         self.words.len()
     }
 
-    /// The first command that waits. 01: "They are cut from the front: a word with
-    /// bit 22 set and the next are one command, any other word is one. A last word
-    /// with bit 22 set waits for its second."
+    /// The first command that waits. A CCC has two words, any other command one; a CCC whose
+    /// second word has not come is no command yet (01, 'What demand 3 counts').
     pub fn first_command(&self) -> Option<Command> {
         let first = *self.words.front()?;
         let second = if first & CCC_BIT == 0 {

@@ -2,10 +2,10 @@
 
 use super::clause::{Clause, Findings};
 use super::transfer::Transfer;
+use crate::number::EMPTY;
 use std::collections::VecDeque;
 
-/// 01: "Receipt: 23:20 error, 19:8 length, 7:0 sync". Bits 31:24 are not part of
-/// demand 3.
+/// A receipt's word (01, 'Commands and receipts'). Bits 31:24 are not part of demand 3.
 #[derive(Clone, Copy, Debug, PartialEq, Eq)]
 pub struct Receipt(pub u32);
 
@@ -43,8 +43,7 @@ impl Receipts {
         }
     }
 
-    /// A finish answered 0. 01: "Its receipt is the value of the finish that finished
-    /// it, with that finish's code as error."
+    /// A finish answered `DONE`; its value is the receipt.
     pub fn finish(
         &mut self,
         code: u8,
@@ -65,7 +64,7 @@ impl Receipts {
         self.queue(receipt, findings);
     }
 
-    /// 00: "its sync the number of earlier receipts modulo 256".
+    /// The sync begins at 0 with the release and has eight bits.
     fn judge_sync(&self, receipt: Receipt, findings: &mut Findings) {
         let expected = self.made % 256;
         let sync = receipt.sync();
@@ -87,8 +86,7 @@ impl Receipts {
         });
     }
 
-    /// A CMDR read answered 0. 01: "The values of the CMDR reads answered 0, then
-    /// CMDR's entries from its head, are these receipts in order."
+    /// A CMDR read answered `DONE` gives the oldest receipt that was not read.
     pub fn read(&mut self, receipt: Receipt, findings: &mut Findings) {
         self.read += 1;
         let number = self.read;
@@ -102,23 +100,23 @@ impl Receipts {
             Some(Receipt(word)) => {
                 format!("expected receipt {number}, {word:08x}, saw {seen:08x}")
             }
-            None => format!("expected 03, no receipt is queued, saw {seen:08x}"),
+            None => format!("expected {EMPTY:02}, no receipt is queued, saw {seen:08x}"),
         });
         if !kept {
             self.queued = None;
         }
     }
 
-    /// 01, number 3: "read of an empty CMDR ... queue". After it CMDR is taken to be
-    /// empty, so that one lost receipt is reported once.
-    pub fn read_refused_with_3(&mut self, findings: &mut Findings) {
-        self.said_empty(true, "03", findings);
+    /// A CMDR read answered `EMPTY`. After it CMDR is taken to be empty, so that one lost receipt
+    /// is reported once.
+    pub fn read_refused(&mut self, findings: &mut Findings) {
+        self.said_empty(true, &format!("{EMPTY:02}"), findings);
         if let Some(queued) = &mut self.queued {
             queued.clear();
         }
     }
 
-    /// 01, Register map: FIFO_STATUS "bit 0 CMDR empty".
+    /// A read of FIFO_STATUS, whose bit 0 tells of CMDR (01, 'Register map').
     pub fn status(&self, value: u32, findings: &mut Findings) {
         if value & 1 == 1 {
             self.said_empty(true, "bit 0 set", findings);
@@ -136,7 +134,7 @@ impl Receipts {
         });
     }
 
-    /// 01, Register map: "0x0c4 CMDR level", "in words"; a receipt is one word.
+    /// A read of CMDR's level; a receipt is one word (01, 'Register map').
     pub fn level(&self, level: u32, findings: &mut Findings) {
         let Some(queued) = &self.queued else {
             return;
@@ -149,8 +147,8 @@ impl Receipts {
     }
 }
 
-/// 00: "its length the payload bytes moved for it, never above the commanded
-/// length".
+/// The bytes counted, and the bound that the command sets. Without the command's words there
+/// is none.
 fn judge_length(receipt: Receipt, transfer: &Transfer, findings: &mut Findings) {
     let length = receipt.length();
     let moved = transfer.moved;
@@ -165,7 +163,7 @@ fn judge_length(receipt: Receipt, transfer: &Transfer, findings: &mut Findings) 
     }
 }
 
-/// 01: "with that finish's code as error".
+/// The whole code, above 15 too.
 fn judge_error(receipt: Receipt, code: u8, findings: &mut Findings) {
     let error = receipt.error();
     findings.judge(Clause::ReceiptError, error == u32::from(code), || {

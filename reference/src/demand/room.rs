@@ -2,9 +2,9 @@
 
 use super::clause::{Clause, Findings};
 use crate::engine::Answer;
+use crate::number::DONE;
 
-/// 00: "Every command word written after a read of the room above 0, made since the
-/// release, with no other command word written between, was taken."
+/// Room above 0 is a place for one word, up to the next write to CMD (00, demand 3).
 #[derive(Debug)]
 pub struct RoomReads {
     /// The room was read above 0 and no command word was written since.
@@ -25,17 +25,17 @@ impl RoomReads {
         self.read_above_0 |= room > 0;
     }
 
-    /// A command word was written; it was taken if it was answered 0.
+    /// A command word was written; it was taken if it was answered `DONE`.
     pub fn word_written(&mut self, word: u32, answer: Answer, findings: &mut Findings) {
         let after_read = self.read_above_0;
         // A word that was refused was written too.
         self.read_above_0 = false;
         self.each_word_after_read &= after_read;
-        let taken = answer.number == 0;
+        let taken = answer.number == DONE;
         let number = answer.number;
         if after_read {
             findings.judge(Clause::TakenAfterRoom, taken, || {
-                format!("expected word {word:08x} taken (00), saw {number:02}")
+                format!("expected word {word:08x} taken ({DONE:02}), saw {number:02}")
             });
         }
         if self.each_word_after_read {

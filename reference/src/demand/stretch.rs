@@ -1,8 +1,7 @@
 //! The count of demand 3 over the calls from a release to the next reset.
 //!
-//! Every beginning of a script that ends after a release and before the next
-//! reset is a list of calls of its own, so each call is judged when it comes. What
-//! is expected comes from the calls and answers before it, never from a model.
+//! Demand 3 holds for each beginning of a script, so each call is judged when it comes.
+//! What is expected comes from the calls and answers before it, never from a model.
 
 use super::clause::Findings;
 use super::command::Kind;
@@ -11,8 +10,9 @@ use super::room::RoomReads;
 use super::transfer::Transfers;
 use super::waiting::Commands;
 use crate::engine::{Answer, Call, SetupNumbers, SESSION_NUMBERS};
+use crate::number::{DONE, EMPTY, NO_COMMAND, SDO_NOT_EMPTY};
 
-// 01, Register map.
+// 01, 'Register map'.
 const ENABLE: u16 = 0x040;
 const CMD_ROOM: u16 = 0x0c0;
 const CMDR_LEVEL: u16 = 0x0c4;
@@ -20,12 +20,6 @@ const CMD: u16 = 0x0d4;
 const CMDR: u16 = 0x0d8;
 const FIFO_STATUS: u16 = 0x0e8;
 const OPS: u16 = 0x100;
-
-// 01, Numbers, the table.
-const DONE: u8 = 0;
-const EMPTY: u8 = 3;
-const NO_WHOLE_COMMAND: u8 = 9;
-const SDO_NOT_EMPTY: u8 = 15;
 
 /// What is counted since the release.
 #[derive(Debug)]
@@ -53,8 +47,6 @@ impl Stretch {
             Call::Write { .. } => {}
             Call::Read { offset } => self.read(offset, answer, findings),
             Call::Start => self.start(answer, findings),
-            // 01: "sends are answered 0 only for a write, receives only for a read,
-            // address requests and takes only for ENTDAA".
             Call::Send => self.event(Kind::Write, 1, answer, findings),
             Call::Receive { .. } => self.event(Kind::Read, 1, answer, findings),
             Call::AddressRequest { .. } | Call::AddressTake => {
@@ -82,7 +74,7 @@ impl Stretch {
                 self.commands.room(value, findings);
             }
             (CMDR, DONE) => self.receipts.read(Receipt(value), findings),
-            (CMDR, EMPTY) => self.receipts.read_refused_with_3(findings),
+            (CMDR, EMPTY) => self.receipts.read_refused(findings),
             (CMDR_LEVEL, DONE) => self.receipts.level(value, findings),
             (FIFO_STATUS, DONE) => self.receipts.status(value, findings),
             (OPS, DONE) => self.transfers.ops(value, findings),
@@ -96,8 +88,8 @@ impl Stretch {
                 let command = self.commands.start(answer.value, findings);
                 self.transfers.start(command, findings);
             }
-            NO_WHOLE_COMMAND => self.commands.start_refused_with_9(findings),
-            SDO_NOT_EMPTY => self.commands.start_refused_with_15(findings),
+            NO_COMMAND => self.commands.refused_without_command(findings),
+            SDO_NOT_EMPTY => self.commands.refused_for_sdo(findings),
             _ => self.transfers.refusal(answer, findings),
         }
     }
@@ -143,8 +135,8 @@ impl Count {
         }
     }
 
-    /// A set-up ends the list and gives the next one its fresh bank. After 23 no
-    /// release is answered 0.
+    /// A set-up ends the list and gives the next one its fresh bank. After a refused one no
+    /// release is answered `DONE`.
     pub fn set_up(&mut self, numbers: &SetupNumbers) {
         self.capacities = numbers.capacities;
         self.offload_length = 0;
@@ -167,7 +159,7 @@ impl Count {
                     stretch.transfers.trigger(self.offload_length);
                 }
             }
-            // 01: "Only calls after the list's last release count."
+            // In reset nothing counts.
             _ => {
                 if let Some(stretch) = &mut self.stretch {
                     stretch.judge_call(call, answer, &mut self.findings);
@@ -176,8 +168,8 @@ impl Count {
         }
     }
 
-    /// 01: "A reset is a write to ENABLE answered 0 with bit 0 set; a release is the
-    /// first one with bit 0 clear since set-up or a reset."
+    /// A write to ENABLE that was answered `DONE`. Bit 0 set is a reset; the first one clear
+    /// after that, or after set-up, is the release (01, 'What demand 3 counts').
     fn enable(&mut self, value: u32) {
         if value & 1 == 1 {
             self.stretch = None;

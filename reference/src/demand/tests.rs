@@ -5,6 +5,7 @@ mod session;
 
 use super::clause::Clause;
 use super::*;
+use crate::number::*;
 use session::{long_session, Session, RECEIPT, RELEASE, RESET, ROOM};
 
 const NO_RECEIPT_ERROR: u32 = !(0xf << 20);
@@ -26,13 +27,13 @@ fn a_correct_session_is_kept() {
     let session = long_session();
     assert_broken(&session, &[]);
     // What the faults below rely on.
-    assert!(session.count("F", " 00") > 300);
-    assert!(session.count("A", " 19") > 40);
-    assert!(session.count("W 00d4", " 01") > 40);
-    assert!(session.count("F", " 13") == 20);
-    assert!(session.count("S", " 15") == 1);
-    assert!(session.count("S", " 09") > 40);
-    assert!(session.count("T", " 10") > 40);
+    assert!(session.count("F", DONE) > 300);
+    assert!(session.count("A", WRONG_PARITY) > 40);
+    assert!(session.count("W 00d4", DROPPED_FULL) > 40);
+    assert!(session.count("F", NO_ROOM) == 20);
+    assert!(session.count("S", SDO_NOT_EMPTY) == 1);
+    assert!(session.count("S", NO_COMMAND) > 40);
+    assert!(session.count("T", NOT_THIS_KIND) > 40);
     for name in ["a read", "a write", "a CCC", "ENTDAA"] {
         let reset = session.mark(&format!("reset in {name}"));
         assert_eq!(session.rows[reset + 1].line, RESET);
@@ -44,9 +45,9 @@ fn a_correct_session_is_kept() {
 #[test]
 fn a_lost_command() {
     let mut session = long_session();
-    let start = session.find(transfer(&session, "private read", 20), "S", " 00");
+    let start = session.find(transfer(&session, "private read", 20), "S", DONE);
     // Taken in front of the command that is started next, and never started.
-    session.insert(start - 1, "W 00d4 ff000010", 0, 0);
+    session.insert(start - 1, "W 00d4 ff000010", 0, DONE);
     assert_broken(&session, &[(Clause::StartedInOrder, start + 1)]);
 }
 
@@ -55,8 +56,8 @@ fn a_doubled_command() {
     let mut lines = long_session().lines();
     let session = Session::run(&lines);
     let mark = transfer(&session, "private read", 20);
-    let start = session.find(mark, "S", " 00");
-    let finish = session.find(mark, "F", " 00");
+    let start = session.find(mark, "S", DONE);
+    let finish = session.find(mark, "F", DONE);
     // The engine gets the command once more; the checked script has it once.
     let command = lines[start - 1].clone();
     lines.insert(finish + 1, command);
@@ -70,21 +71,21 @@ fn a_doubled_command() {
 #[test]
 fn two_commands_reordered() {
     let session = long_session();
-    let first = session.find(transfer(&session, "full queues", 3), "W 00d4", " 00");
-    let start = session.find(first, "S", " 00");
+    let first = session.find(transfer(&session, "full queues", 3), "W 00d4", DONE);
+    let start = session.find(first, "S", DONE);
     let mut lines = session.lines();
     lines.swap(first + 1, first + 2);
     let mut session = Session::run(&lines);
     session.rows.swap(first + 1, first + 2);
-    let second_start = session.find(start + 1, "S", " 00");
+    let second_start = session.find(start + 1, "S", DONE);
     assert_broken(&session, &[(Clause::StartedInOrder, second_start)]);
 }
 
 #[test]
 fn a_command_changed_in_the_queue() {
     let mut session = long_session();
-    let start = session.find(transfer(&session, "broadcast CCC", 7), "S", " 00");
-    session.set(start, session.value(start) ^ 0x8000_0000, 0);
+    let start = session.find(transfer(&session, "broadcast CCC", 7), "S", DONE);
+    session.set(start, session.value(start) ^ 0x8000_0000, DONE);
     assert_broken(&session, &[(Clause::StartedInOrder, start)]);
 }
 
@@ -92,15 +93,15 @@ fn a_command_changed_in_the_queue() {
 fn a_start_with_no_command() {
     let mut session = long_session();
     let end = session.mark("end of the careless part");
-    session.insert(end, "S", 0x10, 0);
+    session.insert(end, "S", 0x10, DONE);
     assert_broken(&session, &[(Clause::StartedInOrder, end)]);
 }
 
 #[test]
 fn a_ccc_started_without_its_second_word() {
     let mut session = long_session();
-    let start = session.find(transfer(&session, "broadcast CCC", 7), "S", " 09");
-    session.set(start, session.value(start + 3), 0);
+    let start = session.find(transfer(&session, "broadcast CCC", 7), "S", NO_COMMAND);
+    session.set(start, session.value(start + 3), DONE);
     let second_start = start + 3;
     assert_eq!(session.rows[second_start].line, "S");
     assert_broken(
@@ -118,34 +119,33 @@ fn a_command_from_before_the_reset() {
     let end = session.mark("end of the careless part");
     assert_eq!(session.rows[end + 2].line, RELEASE);
     // A reset that keeps the queue: the command waits over it.
-    session.insert(end + 1, "W 00d4 00000010", 0, 0);
-    let start = session.find(end + 4, "S", " 00");
-    session.set(start, 0x10, 0);
+    session.insert(end + 1, "W 00d4 00000010", 0, DONE);
+    let start = session.find(end + 4, "S", DONE);
+    session.set(start, 0x10, DONE);
     assert_broken(&session, &[(Clause::StartedInOrder, start)]);
 }
 
 #[test]
-fn a_start_refused_with_9_although_a_command_waits() {
+fn a_start_without_command_although_one_waits() {
     let mut session = long_session();
-    let start = session.find(transfer(&session, "direct CCC", 7), "S", " 00");
-    session.insert(start, "S", 0, 9);
+    let start = session.find(transfer(&session, "direct CCC", 7), "S", DONE);
+    session.insert(start, "S", 0, NO_COMMAND);
     assert_broken(&session, &[(Clause::RestWaits, start)]);
 }
 
 #[test]
-fn a_start_refused_with_15_although_no_entdaa_waits() {
+fn a_start_refused_for_sdo_although_no_entdaa_waits() {
     let mut session = long_session();
-    let start = session.find(transfer(&session, "direct CCC", 7), "S", " 00");
-    session.insert(start, "S", 0, 15);
+    let start = session.find(transfer(&session, "direct CCC", 7), "S", DONE);
+    session.insert(start, "S", 0, SDO_NOT_EMPTY);
     assert_broken(&session, &[(Clause::RestWaits, start)]);
 }
 
-/// 01, Readings that look right: "Room taken from words ever written, so freed
-/// places are never used again."
+/// A wrong reading: a place that a start frees stays used (01, 'Readings that look right').
 #[test]
 fn a_room_that_counts_words_ever_written() {
     let mut session = long_session();
-    let first = session.find(session.mark("careful part"), ROOM, " 00");
+    let first = session.find(session.mark("careful part"), ROOM, DONE);
     let mut room = first;
     let mut written = 0;
     let end = session.mark("reset in a read");
@@ -157,7 +157,7 @@ fn a_room_that_counts_words_ever_written() {
             if room == first && session.value(row) != 4_u32.saturating_sub(written) {
                 room = row;
             }
-            session.set(row, 4_u32.saturating_sub(written), 0);
+            session.set(row, 4_u32.saturating_sub(written), DONE);
         }
     }
     assert!(room > first);
@@ -167,8 +167,8 @@ fn a_room_that_counts_words_ever_written() {
 #[test]
 fn a_fifth_word_taken() {
     let mut session = long_session();
-    let write = session.find(session.mark("last part"), "W 00d4", " 01");
-    session.set(write, 0, 0);
+    let write = session.find(session.mark("last part"), "W 00d4", DROPPED_FULL);
+    session.set(write, 0, DONE);
     assert_broken(&session, &[(Clause::RestWaits, write)]);
 }
 
@@ -176,12 +176,12 @@ fn a_fifth_word_taken() {
 fn a_dropped_word_said_to_be_taken() {
     let mut session = long_session();
     let mark = transfer(&session, "full queues", 5);
-    let write = session.find(mark, "W 00d4", " 01");
-    session.set(write, 0, 0);
+    let write = session.find(mark, "W 00d4", DROPPED_FULL);
+    session.set(write, 0, DONE);
     // The four before it are started; then the command that the model never had.
     let mut start = write;
     for _ in 0..5 {
-        start = session.find(start + 1, "S", " 00");
+        start = session.find(start + 1, "S", DONE);
     }
     assert_broken(
         &session,
@@ -194,41 +194,41 @@ fn a_dropped_word_said_to_be_taken() {
 #[test]
 fn a_start_before_the_finish() {
     let mut session = long_session();
-    let write = session.find(session.mark("last part"), "W 00d4", " 01");
+    let write = session.find(session.mark("last part"), "W 00d4", DROPPED_FULL);
     let next = session.rows[write - 4].line[7..].to_string();
-    session.insert(write, "S", u32::from_str_radix(&next, 16).unwrap(), 0);
+    session.insert(write, "S", u32::from_str_radix(&next, 16).unwrap(), DONE);
     assert_broken(&session, &[(Clause::OneOpen, write)]);
 }
 
 #[test]
-fn a_start_refused_with_6_although_all_finished() {
+fn a_start_with_a_transfer_open_although_all_finished() {
     let mut session = long_session();
-    let start = session.find(transfer(&session, "direct CCC", 7), "S", " 00");
-    session.insert(start, "S", 0, 6);
+    let start = session.find(transfer(&session, "direct CCC", 7), "S", DONE);
+    session.insert(start, "S", 0, TRANSFER_OPEN);
     assert_broken(&session, &[(Clause::OneOpen, start)]);
 }
 
 #[test]
-fn an_interrupt_refused_with_6_although_all_finished() {
+fn an_interrupt_with_a_transfer_open_although_all_finished() {
     let mut session = long_session();
-    let row = session.find(session.mark("careful part"), "I", " 00");
-    session.set(row, 0, 6);
+    let row = session.find(session.mark("careful part"), "I", DONE);
+    session.set(row, 0, TRANSFER_OPEN);
     assert_broken(&session, &[(Clause::OneOpen, row)]);
 }
 
 #[test]
-fn a_finish_refused_with_7_although_a_command_is_open() {
+fn a_finish_without_transfer_although_a_command_is_open() {
     let mut session = long_session();
-    let finish = session.find(transfer(&session, "ENTDAA", 7), "F", " 00");
-    session.insert(finish, "F 0", 0, 7);
+    let finish = session.find(transfer(&session, "ENTDAA", 7), "F", DONE);
+    session.insert(finish, "F 0", 0, NO_TRANSFER);
     assert_broken(&session, &[(Clause::OneOpen, finish)]);
 }
 
 #[test]
 fn a_status_that_shows_no_transfer_while_one_is_open() {
     let mut session = long_session();
-    let row = session.find(transfer(&session, "private write", 7), "R 0100", " 00");
-    session.set(row, session.value(row) ^ 0x80, 0);
+    let row = session.find(transfer(&session, "private write", 7), "R 0100", DONE);
+    session.set(row, session.value(row) ^ 0x80, DONE);
     assert_broken(&session, &[(Clause::OneOpen, row)]);
 }
 
@@ -239,9 +239,9 @@ fn a_send_for_a_read() {
     let mut session = long_session();
     // Round 1: length 5, one byte moved.
     let mark = transfer(&session, "private read", 1);
-    let send = session.find(mark, "T", " 10");
-    let finish = session.find(mark, "F", " 00");
-    session.set(send, 0xa5, 0);
+    let send = session.find(mark, "T", NOT_THIS_KIND);
+    let finish = session.find(mark, "F", DONE);
+    session.set(send, 0xa5, DONE);
     session.set_receipt(finish, session.value(finish) + 0x100);
     assert_broken(&session, &[(Clause::EventsOfItsKind, send)]);
 }
@@ -251,8 +251,8 @@ fn a_receive_for_a_write() {
     let mut session = long_session();
     // Round 3: length 3, refused with a code before any byte.
     let mark = transfer(&session, "not acknowledged", 3);
-    let finish = session.find(mark, "F 6", " 00");
-    session.insert(finish, "X 00", 0, 0);
+    let finish = session.find(mark, "F 6", DONE);
+    session.insert(finish, "X 00", 0, DONE);
     session.set_receipt(finish + 1, session.value(finish + 1) + 0x100);
     assert_broken(&session, &[(Clause::EventsOfItsKind, finish)]);
 }
@@ -260,16 +260,16 @@ fn a_receive_for_a_write() {
 #[test]
 fn an_address_request_for_a_write() {
     let mut session = long_session();
-    let row = session.find(transfer(&session, "private write", 3), "D", " 10");
-    session.set(row, 0, 0);
+    let row = session.find(transfer(&session, "private write", 3), "D", NOT_THIS_KIND);
+    session.set(row, 0, DONE);
     assert_broken(&session, &[(Clause::EventsOfItsKind, row)]);
 }
 
 #[test]
 fn an_address_take_for_a_read() {
     let mut session = long_session();
-    let row = session.find(transfer(&session, "private read", 3), "A", " 10");
-    session.set(row, 8, 0);
+    let row = session.find(transfer(&session, "private read", 3), "A", NOT_THIS_KIND);
+    session.set(row, 8, DONE);
     assert_broken(&session, &[(Clause::EventsOfItsKind, row)]);
 }
 
@@ -279,9 +279,9 @@ fn a_byte_moved_for_entdaa() {
     for event in ["T", "X"] {
         let mut session = long_session();
         let mark = transfer(&session, "ENTDAA", 3);
-        let row = session.find(mark, event, " 10");
-        let finish = session.find(mark, "F", " 00");
-        session.set(row, 0, 0);
+        let row = session.find(mark, event, NOT_THIS_KIND);
+        let finish = session.find(mark, "F", DONE);
+        session.set(row, 0, DONE);
         session.set_receipt(finish, session.value(finish) + 0x100);
         assert_broken(
             &session,
@@ -298,7 +298,7 @@ fn events_with_no_command_open() {
     for event in ["T", "X 00", "D 1 2", "A"] {
         let mut session = long_session();
         let mark = transfer(&session, "private read", 3);
-        session.insert(mark, event, 0, 0);
+        session.insert(mark, event, 0, DONE);
         assert_broken(&session, &[(Clause::EventsOfItsKind, mark)]);
     }
 }
@@ -309,14 +309,14 @@ fn events_with_no_command_open() {
 fn a_finish_with_no_command_open() {
     let mut session = long_session();
     let end = session.mark("end of the careless part");
-    session.insert(end, "F 0", 0x65, 0);
+    session.insert(end, "F 0", 0x65, DONE);
     assert_broken(&session, &[(Clause::OneReceiptEach, end)]);
 }
 
 #[test]
 fn a_wrong_sync() {
     let mut session = long_session();
-    let finish = session.find(transfer(&session, "ENTDAA", 30), "F", " 00");
+    let finish = session.find(transfer(&session, "ENTDAA", 30), "F", DONE);
     session.set_receipt(finish, session.value(finish) ^ 0x40);
     assert_broken(&session, &[(Clause::ReceiptSync, finish)]);
 }
@@ -326,7 +326,7 @@ fn a_sync_that_stays_at_255() {
     let mut session = long_session();
     let mut finish = session.mark("careful part");
     for _ in 0..257 {
-        finish = session.find(finish + 1, "F", " 00");
+        finish = session.find(finish + 1, "F", DONE);
     }
     assert_eq!(session.value(finish) & 0xff, 0);
     session.set_receipt(finish, session.value(finish) | 0xff);
@@ -336,29 +336,29 @@ fn a_sync_that_stays_at_255() {
 #[test]
 fn a_sync_kept_over_a_reset() {
     let mut session = long_session();
-    let finish = session.find(session.mark("last part"), "F", " 00");
+    let finish = session.find(session.mark("last part"), "F", DONE);
     session.set_receipt(finish, session.value(finish) | 0x66);
     assert_broken(&session, &[(Clause::ReceiptSync, finish)]);
 }
 
-/// 01, Readings that look right: "Sync raised before the room test at the finish, so
-/// that a finish refused with 13 and tried again counts twice."
+/// A wrong reading: a finish that found no room has used up a sync (01, 'Readings that look
+/// right').
 #[test]
 fn a_sync_raised_by_a_refused_finish() {
     let mut session = long_session();
-    let refused = session.find(session.mark("no room for the receipt"), "F", " 13");
+    let refused = session.find(session.mark("no room for the receipt"), "F", NO_ROOM);
     let end = session.mark("end of the careless part");
-    let first = session.find(refused, "F", " 00");
+    let first = session.find(refused, "F", DONE);
     let done: Vec<usize> = (refused..end)
-        .filter(|row| session.is(*row, "", " 00"))
+        .filter(|row| session.is(*row, "", DONE))
         .collect();
-    let finishes = done.iter().filter(|row| session.is(**row, "F", ""));
+    let finishes = done.iter().filter(|row| session.is(**row, "F", DONE));
     // Four receipts were queued before the refused finish.
-    let reads = done.iter().filter(|row| session.is(**row, RECEIPT, ""));
+    let reads = done.iter().filter(|row| session.is(**row, RECEIPT, DONE));
     let raised: Vec<usize> = finishes.chain(reads.skip(4)).copied().collect();
     assert!(raised.len() > 180);
     for row in raised {
-        session.set(row, session.value(row) + 1, 0);
+        session.set(row, session.value(row) + 1, DONE);
     }
     assert_broken(&session, &[(Clause::ReceiptSync, first)]);
 }
@@ -367,7 +367,7 @@ fn a_sync_raised_by_a_refused_finish() {
 fn a_wrong_length() {
     let mut session = long_session();
     // Round 3: three bytes received of seven.
-    let finish = session.find(transfer(&session, "private read", 3), "F", " 00");
+    let finish = session.find(transfer(&session, "private read", 3), "F", DONE);
     assert_eq!(session.value(finish) >> 8, 3);
     session.set_receipt(finish, session.value(finish) - 0x100);
     assert_broken(&session, &[(Clause::ReceiptLength, finish)]);
@@ -376,7 +376,7 @@ fn a_wrong_length() {
 #[test]
 fn a_length_that_is_the_commanded_one() {
     let mut session = long_session();
-    let finish = session.find(transfer(&session, "private read", 3), "F", " 00");
+    let finish = session.find(transfer(&session, "private read", 3), "F", DONE);
     session.set_receipt(finish, session.value(finish) & 0xff | 7 << 8);
     assert_broken(&session, &[(Clause::ReceiptLength, finish)]);
 }
@@ -386,9 +386,9 @@ fn a_receipt_without_the_bytes_moved() {
     let mut session = long_session();
     // A byte is refused that the receipt counts.
     let mark = transfer(&session, "direct CCC", 5);
-    let receive = session.find(mark, "X", " 00");
-    let finish = session.find(mark, "F", " 00");
-    session.set(receive, 0, 13);
+    let receive = session.find(mark, "X", DONE);
+    let finish = session.find(mark, "F", DONE);
+    session.set(receive, 0, NO_ROOM);
     assert_broken(&session, &[(Clause::ReceiptLength, finish)]);
 }
 
@@ -396,9 +396,9 @@ fn a_receipt_without_the_bytes_moved() {
 fn a_length_above_the_commanded_length() {
     let mut session = long_session();
     let mark = transfer(&session, "private write", 5);
-    let send = session.find(mark, "T", " 11");
-    let finish = session.find(mark, "F", " 00");
-    session.set(send, 0, 0);
+    let send = session.find(mark, "T", LENGTH_REACHED);
+    let finish = session.find(mark, "F", DONE);
+    session.set(send, 0, DONE);
     session.set_receipt(finish, session.value(finish) + 0x100);
     assert_broken(&session, &[(Clause::CommandedLength, finish)]);
 }
@@ -406,7 +406,7 @@ fn a_length_above_the_commanded_length() {
 #[test]
 fn a_wrong_code() {
     let mut session = long_session();
-    let finish = session.find(transfer(&session, "not acknowledged", 9), "F 6", " 00");
+    let finish = session.find(transfer(&session, "not acknowledged", 9), "F 6", DONE);
     session.set_receipt(finish, session.value(finish) & NO_RECEIPT_ERROR | 4 << 20);
     assert_broken(&session, &[(Clause::ReceiptError, finish)]);
 }
@@ -414,7 +414,7 @@ fn a_wrong_code() {
 #[test]
 fn a_code_above_15_accepted() {
     let mut session = long_session();
-    let finish = session.find(transfer(&session, "private read", 9), "F 0", " 00");
+    let finish = session.find(transfer(&session, "private read", 9), "F 0", DONE);
     session.rows[finish].line = "F 10".to_string();
     assert_broken(&session, &[(Clause::ReceiptError, finish)]);
 }
@@ -432,10 +432,10 @@ fn a_missing_receipt() {
 }
 
 #[test]
-fn a_missing_receipt_answered_3() {
+fn a_missing_receipt_and_cmdr_empty() {
     let mut session = long_session();
-    let row = session.find(transfer(&session, "ENTDAA", 9), RECEIPT, " 00");
-    session.set(row, 0, 3);
+    let row = session.find(transfer(&session, "ENTDAA", 9), RECEIPT, DONE);
+    session.set(row, 0, EMPTY);
     assert_broken(&session, &[(Clause::ReceiptsQueued, row)]);
 }
 
@@ -446,14 +446,14 @@ fn a_doubled_receipt() {
         session.mark("four receipts"),
         transfer(&session, "ENTDAA", 9),
     ] {
-        let row = session.find(mark, RECEIPT, " 00");
+        let row = session.find(mark, RECEIPT, DONE);
         let mut session = session.clone();
-        session.insert(row + 1, RECEIPT, session.value(row), 0);
+        session.insert(row + 1, RECEIPT, session.value(row), DONE);
         assert_broken(&session, &[(Clause::ReceiptsRead, row + 1)]);
     }
     // Doubled at the end of a part.
     let end = session.mark("end of the careless part");
-    session.insert(end, RECEIPT, 0, 0);
+    session.insert(end, RECEIPT, 0, DONE);
     assert_broken(&session, &[(Clause::ReceiptsRead, end)]);
 }
 
@@ -462,8 +462,8 @@ fn two_receipts_reordered() {
     let mut session = long_session();
     let row = session.mark("four receipts") + 1;
     let (first, second) = (session.value(row), session.value(row + 1));
-    session.set(row, second, 0);
-    session.set(row + 1, first, 0);
+    session.set(row, second, DONE);
+    session.set(row + 1, first, DONE);
     assert_broken(&session, &[(Clause::ReceiptsRead, row)]);
 }
 
@@ -471,8 +471,8 @@ fn two_receipts_reordered() {
 fn a_receipt_changed_in_the_queue() {
     for bit in 0..32 {
         let mut session = long_session();
-        let row = session.find(transfer(&session, "direct CCC", 9), RECEIPT, " 00");
-        session.set(row, session.value(row) ^ 1 << bit, 0);
+        let row = session.find(transfer(&session, "direct CCC", 9), RECEIPT, DONE);
+        session.set(row, session.value(row) ^ 1 << bit, DONE);
         assert_broken(&session, &[(Clause::ReceiptsRead, row)]);
     }
 }
@@ -480,8 +480,8 @@ fn a_receipt_changed_in_the_queue() {
 #[test]
 fn a_receipt_of_an_unfinished_transfer() {
     let mut session = long_session();
-    let finish = session.find(transfer(&session, "private read", 9), "F", " 00");
-    session.insert(finish, RECEIPT, session.value(finish), 0);
+    let finish = session.find(transfer(&session, "private read", 9), "F", DONE);
+    session.insert(finish, RECEIPT, session.value(finish), DONE);
     assert_broken(&session, &[(Clause::ReceiptsRead, finish)]);
 }
 
@@ -489,34 +489,34 @@ fn a_receipt_of_an_unfinished_transfer() {
 fn a_receipt_from_before_the_reset() {
     let mut session = long_session();
     let row = session.mark("careless part") + 2;
-    session.insert(row, RECEIPT, 0x33, 0);
+    session.insert(row, RECEIPT, 0x33, DONE);
     assert_broken(&session, &[(Clause::ReceiptsRead, row)]);
 }
 
 #[test]
 fn a_wrong_level_of_receipts() {
     let mut session = long_session();
-    let row = session.find(session.mark("careless part"), "R 00c4", " 00");
+    let row = session.find(session.mark("careless part"), "R 00c4", DONE);
     assert_eq!(session.value(row), 4);
-    session.set(row, 3, 0);
+    session.set(row, 3, DONE);
     assert_broken(&session, &[(Clause::ReceiptsQueued, row)]);
 }
 
 #[test]
 fn a_status_that_shows_a_receipt_when_all_are_read() {
     let mut session = long_session();
-    let read = session.find(transfer(&session, "private write", 9), RECEIPT, " 00");
-    let row = session.find(read, "R 00e8", " 00");
-    session.set(row, session.value(row) ^ 1, 0);
+    let read = session.find(transfer(&session, "private write", 9), RECEIPT, DONE);
+    let row = session.find(read, "R 00e8", DONE);
+    session.set(row, session.value(row) ^ 1, DONE);
     assert_broken(&session, &[(Clause::ReceiptsQueued, row)]);
 }
 
 #[test]
 fn a_fifth_receipt_queued() {
     let mut session = long_session();
-    let refused = session.find(session.mark("no room for the receipt"), "F", " 13");
-    let finish = session.find(refused, "F", " 00");
-    session.set(refused, session.value(finish), 0);
+    let refused = session.find(session.mark("no room for the receipt"), "F", NO_ROOM);
+    let finish = session.find(refused, "F", DONE);
+    session.set(refused, session.value(finish), DONE);
     session.rows.remove(finish);
     assert_broken(&session, &[(Clause::ReceiptsQueued, refused)]);
 }
@@ -524,30 +524,30 @@ fn a_fifth_receipt_queued() {
 // The room.
 
 #[test]
-fn a_write_refused_with_1_although_the_room_was_read() {
+fn a_word_dropped_although_the_room_was_read() {
     let mut session = long_session();
     let end = session.mark("end of the careless part");
-    session.insert(end, ROOM, 4, 0);
-    session.insert(end + 1, "R 00c4", 0, 0);
-    session.insert(end + 2, "W 00d4 00000010", 0, 1);
+    session.insert(end, ROOM, 4, DONE);
+    session.insert(end + 1, "R 00c4", 0, DONE);
+    session.insert(end + 2, "W 00d4 00000010", 0, DROPPED_FULL);
     assert_broken(&session, &[(Clause::TakenAfterRoom, end + 2)]);
 }
 
 #[test]
-fn a_write_refused_with_5_although_the_room_was_read() {
+fn a_word_held_in_reset_although_the_room_was_read() {
     let mut session = long_session();
     let end = session.mark("end of the careless part");
-    session.insert(end, ROOM, 4, 0);
-    session.insert(end + 1, "W 00d4 00000010", 0, 5);
+    session.insert(end, ROOM, 4, DONE);
+    session.insert(end + 1, "W 00d4 00000010", 0, HELD_IN_RESET);
     assert_broken(&session, &[(Clause::TakenAfterRoom, end + 1)]);
 }
 
 #[test]
-fn a_write_refused_with_1_although_the_room_was_1() {
+fn a_word_dropped_although_the_room_was_1() {
     let mut session = long_session();
-    let fifth = session.find(session.mark("last part"), "W 00d4", " 01");
-    session.set(fifth - 1, 0, 1);
-    session.insert(fifth - 1, ROOM, 1, 0);
+    let fifth = session.find(session.mark("last part"), "W 00d4", DROPPED_FULL);
+    session.set(fifth - 1, 0, DROPPED_FULL);
+    session.insert(fifth - 1, ROOM, 1, DONE);
     assert_broken(&session, &[(Clause::TakenAfterRoom, fifth)]);
 }
 
@@ -556,9 +556,9 @@ fn a_write_refused_with_1_although_the_room_was_1() {
 fn a_room_that_shrinks_with_no_word_written() {
     let mut session = long_session();
     let end = session.mark("end of the careless part");
-    session.insert(end, ROOM, 4, 0);
-    session.insert(end + 1, ROOM, 0, 0);
-    session.insert(end + 2, "W 00d4 00000010", 0, 1);
+    session.insert(end, ROOM, 4, DONE);
+    session.insert(end + 1, ROOM, 0, DONE);
+    session.insert(end + 2, "W 00d4 00000010", 0, DROPPED_FULL);
     assert_broken(
         &session,
         &[
@@ -573,8 +573,8 @@ fn a_room_that_shrinks_with_no_word_written() {
 fn a_missing_command_where_each_word_is_written_after_a_room_read() {
     let mut session = long_session();
     let mark = transfer(&session, "not attached", 20);
-    session.insert(mark, ROOM, 4, 0);
-    session.insert(mark + 1, "W 00d4 00000010", 0, 1);
+    session.insert(mark, ROOM, 4, DONE);
+    session.insert(mark + 1, "W 00d4 00000010", 0, DROPPED_FULL);
     assert_broken(
         &session,
         &[
@@ -591,22 +591,22 @@ fn refusals_that_demand_3_allows() {
     let mut session = long_session();
     let end = session.mark("end of the careless part");
     // Another word written between, be it taken or refused.
-    session.insert(end, ROOM, 4, 0);
-    session.insert(end + 1, "W 00d4 00000010", 0, 0);
-    session.insert(end + 2, "W 00d4 00000010", 0, 1);
-    session.insert(end + 3, "W 00d4 00000010", 0, 1);
+    session.insert(end, ROOM, 4, DONE);
+    session.insert(end + 1, "W 00d4 00000010", 0, DONE);
+    session.insert(end + 2, "W 00d4 00000010", 0, DROPPED_FULL);
+    session.insert(end + 3, "W 00d4 00000010", 0, DROPPED_FULL);
     // No read of the room since the release, one before it.
-    let release = session.find(end + 4, RELEASE, " 00");
-    session.insert(release, ROOM, 4, 0);
-    session.insert(release + 2, "W 00d4 00000010", 0, 1);
+    let release = session.find(end + 4, RELEASE, DONE);
+    session.insert(release, ROOM, 4, DONE);
+    session.insert(release + 2, "W 00d4 00000010", 0, DROPPED_FULL);
     // A read of 0.
-    let full = session.find(transfer(&session, "full queues", 2), ROOM, " 00");
+    let full = session.find(transfer(&session, "full queues", 2), ROOM, DONE);
     assert_eq!(session.value(full), 0);
-    session.insert(full + 1, "W 00d4 00000010", 0, 1);
+    session.insert(full + 1, "W 00d4 00000010", 0, DROPPED_FULL);
     let release = release + 1;
     // A read with another number.
-    session.insert(release + 3, ROOM, 4, 4);
-    session.insert(release + 4, "W 00d4 00000010", 0, 1);
+    session.insert(release + 3, ROOM, 4, NO_REGISTER);
+    session.insert(release + 4, "W 00d4 00000010", 0, DROPPED_FULL);
     assert_broken(&session, &[]);
 }
 
@@ -623,19 +623,19 @@ fn calls_in_reset_are_not_counted() {
         (ROOM, 9),
         ("R 0100", 0),
     ] {
-        session.insert(release, line, value, 0);
+        session.insert(release, line, value, DONE);
     }
     assert_broken(&session, &[]);
 }
 
 /// A write to ENABLE that was refused is no reset, a second 0 no release.
 #[test]
-fn only_writes_answered_0_reset_and_release() {
+fn only_writes_that_are_done_reset_and_release() {
     let mut session = long_session();
-    let mark = session.find(transfer(&session, "private write", 9), "F", " 00");
-    session.insert(mark, RESET, 0, 2);
-    session.insert(mark, RELEASE, 0, 0);
-    session.insert(mark, "W 4040 00000001", 0, 0);
+    let mark = session.find(transfer(&session, "private write", 9), "F", DONE);
+    session.insert(mark, RESET, 0, DROPPED_READ_ONLY);
+    session.insert(mark, RELEASE, 0, DONE);
+    session.insert(mark, "W 4040 00000001", 0, DONE);
     assert_broken(&session, &[]);
 }
 
@@ -698,17 +698,17 @@ fn session_with_bursts() -> Session {
 #[test]
 fn bursts_count_for_none() {
     let session = session_with_bursts();
-    assert_eq!(session.count("G", " 00"), 4);
-    assert_eq!(session.count("G", " 06"), 2);
-    assert_eq!(session.count(RECEIPT, " 00"), 4);
+    assert_eq!(session.count("G", DONE), 4);
+    assert_eq!(session.count("G", TRANSFER_OPEN), 2);
+    assert_eq!(session.count(RECEIPT, DONE), 4);
     assert_broken(&session, &[]);
 }
 
 #[test]
 fn a_finish_past_the_burst() {
     let mut session = session_with_bursts();
-    let last = session.find(0, "F 0", " 07");
-    session.set(last, 0, 0);
+    let last = session.find(0, "F 0", NO_TRANSFER);
+    session.set(last, 0, DONE);
     // Its value then counts as a receipt, so that the next sync and read are wrong too.
     assert_eq!(session.broken()[0], (Clause::OneReceiptEach, last));
 }
@@ -716,16 +716,16 @@ fn a_finish_past_the_burst() {
 #[test]
 fn a_receipt_of_a_burst_transfer() {
     let mut session = session_with_bursts();
-    let first = session.find(0, RECEIPT, " 00");
-    session.insert(first, RECEIPT, 0x0000_0100, 0);
+    let first = session.find(0, RECEIPT, DONE);
+    session.insert(first, RECEIPT, 0x0000_0100, DONE);
     assert_broken(&session, &[(Clause::ReceiptsRead, first + 1)]);
 }
 
 #[test]
 fn a_command_started_by_the_trigger() {
     let mut session = session_with_bursts();
-    let start = session.find(session.find(0, "P 0", " 00"), "S", " 00");
-    session.set(start, 0, 9);
+    let start = session.find(session.find(0, "P 0", DONE), "S", DONE);
+    session.set(start, 0, NO_COMMAND);
     assert_eq!(session.broken()[0], (Clause::RestWaits, start));
 }
 

@@ -3,18 +3,19 @@
 use super::clause::{Clause, Findings};
 use super::command::{Command, Kind};
 use crate::engine::Answer;
-
-/// 01, Numbers: "a transfer is open" and "no transfer is open".
-const TRANSFER_OPEN: u8 = 6;
-const NO_TRANSFER: u8 = 7;
+use crate::number::{DONE, NO_TRANSFER, TRANSFER_OPEN};
 
 #[derive(Debug)]
 pub struct Transfer {
     /// Unknown after a start that was not the next command's.
     pub command: Option<Command>,
-    /// 01: "Bytes moved for a command: the sends and receives answered 0 while it
-    /// was open."
+    /// Sends and receives answered `DONE` so far.
     pub moved: u64,
+}
+
+/// An answer's number as its line has it.
+fn number_text(answer: Answer) -> String {
+    format!("{:02}", answer.number)
 }
 
 /// The transfers since the release.
@@ -22,14 +23,13 @@ pub struct Transfer {
 pub struct Transfers {
     open: Option<Transfer>,
     started: u64,
-    /// Transfers of the open burst that have not finished. 02: "demand 3 speaks of
-    /// direct commands only": their events count for none.
+    /// Transfers of the open burst that have not finished. Demand 3 leaves bursts out, so
+    /// that their events count for nothing (02 §3).
     burst_left: u32,
 }
 
 impl Transfers {
-    /// A start answered 0. 00: "All that started have finished, save the last while
-    /// it is open."
+    /// A start answered `DONE`; the command before it must have finished.
     pub fn start(&mut self, command: Option<Command>, findings: &mut Findings) {
         let number = self.started;
         findings.judge(Clause::OneOpen, self.open.is_none(), || {
@@ -39,7 +39,7 @@ impl Transfers {
         self.open = Some(Transfer { command, moved: 0 });
     }
 
-    /// A trigger answered 0; its burst has this many commands.
+    /// A trigger answered `DONE`; its burst has this many commands.
     pub fn trigger(&mut self, commands: u32) {
         self.burst_left = commands;
     }
@@ -49,7 +49,7 @@ impl Transfers {
         self.open.is_none() && self.burst_left > 0
     }
 
-    /// An event answered 0 that only a command of this kind has; `bytes` is what it
+    /// An event answered `DONE` that only a command of this kind has; `bytes` is what it
     /// moves.
     pub fn event(&mut self, kind: Kind, bytes: u64, findings: &mut Findings) {
         if self.is_in_burst() {
@@ -57,7 +57,10 @@ impl Transfers {
         }
         let Some(transfer) = &mut self.open else {
             findings.judge(Clause::EventsOfItsKind, false, || {
-                format!("expected a refusal, {} is not open, saw 00", kind.name())
+                format!(
+                    "expected a refusal, {} is not open, saw {DONE:02}",
+                    kind.name()
+                )
             });
             return;
         };
@@ -67,12 +70,12 @@ impl Transfers {
             findings.judge(Clause::EventsOfItsKind, kept, || {
                 let open_kind = command.kind().name();
                 let first = command.first;
-                format!("expected a refusal for {first:08x}, {open_kind}, saw 00")
+                format!("expected a refusal for {first:08x}, {open_kind}, saw {DONE:02}")
             });
         }
     }
 
-    /// A finish answered 0 for a transfer of the burst; false if it is not one.
+    /// A finish answered `DONE` for a transfer of the burst; false if it is not one.
     pub fn finish_in_burst(&mut self) -> bool {
         let in_burst = self.is_in_burst();
         if in_burst {
@@ -81,7 +84,7 @@ impl Transfers {
         in_burst
     }
 
-    /// 01: "It is open until the next finish answered 0, which finishes it."
+    /// A finish answered `DONE`; gives the transfer that it ends.
     pub fn finish(&mut self) -> Option<Transfer> {
         self.open.take()
     }
@@ -89,13 +92,13 @@ impl Transfers {
     /// An event refused; two numbers say whether a transfer is open.
     pub fn refusal(&self, answer: Answer, findings: &mut Findings) {
         match answer.number {
-            TRANSFER_OPEN => self.said_open("06", findings),
-            NO_TRANSFER => self.said_not_open("07", findings),
+            TRANSFER_OPEN => self.said_open(&number_text(answer), findings),
+            NO_TRANSFER => self.said_not_open(&number_text(answer), findings),
             _ => {}
         }
     }
 
-    /// 01, Register map: OPS "bit 7 read-only, 1 when no transfer is open".
+    /// A read of OPS, whose bit 7 is clear while a transfer is open (01, 'Register map').
     pub fn ops(&self, value: u32, findings: &mut Findings) {
         if value >> 7 & 1 == 1 {
             self.said_not_open("bit 7 set", findings);

@@ -2,6 +2,7 @@
 
 use super::clause::{Clause, Findings};
 use super::command::{Command, Kind, WaitingWords};
+use crate::number::{NO_COMMAND, SDO_NOT_EMPTY};
 
 /// The commands since the release, up to the first start that is not the next
 /// command's: from there the n-th start is no longer the n-th command's, and what
@@ -22,8 +23,7 @@ impl Commands {
         }
     }
 
-    /// 01: "The queue took the words of the CMD writes answered 0, in order." More
-    /// than its capacity can't wait in it.
+    /// A write to CMD that was answered `DONE`. More words than its capacity can't wait in it.
     pub fn word_taken(&mut self, word: u32, findings: &mut Findings) {
         let Some(waiting) = &mut self.waiting else {
             return;
@@ -36,7 +36,8 @@ impl Commands {
         });
     }
 
-    /// 01, Register map: "room is capacity less level".
+    /// A read of the room: with the words that wait it makes up the capacity (01, 'Register
+    /// map').
     pub fn room(&self, room: u32, findings: &mut Findings) {
         let Some(waiting) = &self.waiting else {
             return;
@@ -49,8 +50,8 @@ impl Commands {
         });
     }
 
-    /// 01: "The n-th start answered 0 starts the n-th command; its value is that
-    /// command's first word." Gives the command if it is that one.
+    /// A start answered `DONE`. Gives the command that was its turn, if the value is that one's
+    /// first word.
     pub fn start(&mut self, value: u32, findings: &mut Findings) -> Option<Command> {
         self.started += 1;
         let number = self.started;
@@ -71,21 +72,20 @@ impl Commands {
         command
     }
 
-    /// 01, number 9: "no whole command waits".
-    pub fn start_refused_with_9(&self, findings: &mut Findings) {
+    /// A start answered `NO_COMMAND` says that nothing whole waits.
+    pub fn refused_without_command(&self, findings: &mut Findings) {
         let Some(waiting) = &self.waiting else {
             return;
         };
         let command = waiting.first_command();
         findings.judge(Clause::RestWaits, command.is_none(), || {
             let first = command.map_or(0, |command| command.first);
-            format!("expected command {first:08x} waiting, saw start answered 09")
+            format!("expected command {first:08x} waiting, saw start answered {NO_COMMAND:02}")
         });
     }
 
-    /// 01, number 15: "SDO not empty at ENTDAA start": the first command that waits
-    /// is ENTDAA.
-    pub fn start_refused_with_15(&self, findings: &mut Findings) {
+    /// A start answered `SDO_NOT_EMPTY` says that the first command that waits is ENTDAA.
+    pub fn refused_for_sdo(&self, findings: &mut Findings) {
         let Some(waiting) = &self.waiting else {
             return;
         };
@@ -95,9 +95,15 @@ impl Commands {
             Some(command) => {
                 let kind = command.kind().name();
                 let first = command.first;
-                format!("expected command {first:08x}, {kind}, waiting, saw start answered 15")
+                format!(
+                    "expected command {first:08x}, {kind}, waiting, \
+                     saw start answered {SDO_NOT_EMPTY:02}"
+                )
             }
-            None => "expected 09, no whole command waits, saw start answered 15".to_string(),
+            None => format!(
+                "expected {NO_COMMAND:02}, no whole command waits, \
+                 saw start answered {SDO_NOT_EMPTY:02}"
+            ),
         });
     }
 }

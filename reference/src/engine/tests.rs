@@ -24,7 +24,7 @@ fn with_device() -> Bank {
 
 fn value_at(bank: &mut Bank, offset: u16) -> u32 {
     let answer = bank.read(offset);
-    assert_eq!(answer.number, 0);
+    assert_eq!(answer.number, DONE);
     answer.value
 }
 
@@ -42,8 +42,8 @@ const HEADER: u32 = 0x0020_0000;
 
 // Set-up.
 
-/// 01: "Capacities: CMD and SDI 2 to 1,024, the others 1 to 1,024. A watermark is
-/// 0 to its queue's capacity; ID is 0 to 255."
+/// The least and the greatest of each number, and what lies next to them outside (01, 'The
+/// part of the controller we model').
 #[test]
 fn set_up_ranges() {
     let least = SetupNumbers {
@@ -61,23 +61,24 @@ fn set_up_ranges() {
     for queue in 0..5 {
         let mut numbers = least;
         numbers.capacities[queue] -= 1;
-        assert_eq!(set_up(&numbers).1, refuse(23));
+        assert_eq!(set_up(&numbers).1, refuse(SET_UP_OUT_OF_RANGE));
         let mut numbers = greatest;
         numbers.capacities[queue] = 1025;
-        assert_eq!(set_up(&numbers).1, refuse(23));
+        assert_eq!(set_up(&numbers).1, refuse(SET_UP_OUT_OF_RANGE));
         let mut numbers = least;
         numbers.watermarks[queue] = least.capacities[queue] + 1;
-        assert_eq!(set_up(&numbers).1, refuse(23));
+        assert_eq!(set_up(&numbers).1, refuse(SET_UP_OUT_OF_RANGE));
         let mut numbers = least;
         numbers.watermarks[queue] = u32::MAX;
-        assert_eq!(set_up(&numbers).1, refuse(23));
+        assert_eq!(set_up(&numbers).1, refuse(SET_UP_OUT_OF_RANGE));
     }
     let mut numbers = least;
     numbers.id = 256;
-    assert_eq!(set_up(&numbers).1, refuse(23));
+    assert_eq!(set_up(&numbers).1, refuse(SET_UP_OUT_OF_RANGE));
 }
 
-/// 01: "a bank held in reset, registers and device table 0 but for ENABLE and ID".
+/// Nothing is stored but ENABLE and the ID; what is computed shows empty queues (01,
+/// 'Numbers that come back').
 #[test]
 fn registers_after_set_up() {
     let mut numbers = SESSION_NUMBERS;
@@ -111,13 +112,13 @@ fn registers_after_set_up() {
         assert_eq!(bank.read(offset), done(value), "{offset:#x}");
     }
     for offset in [0x0d8, 0x0e0, 0x0e4] {
-        assert_eq!(bank.read(offset), refuse(3));
+        assert_eq!(bank.read(offset), refuse(EMPTY));
     }
 }
 
 // Accesses.
 
-/// 01, number 4: "offset not in the map, or not a multiple of 4".
+/// All 65,536 offsets: reads and writes know the same 53 (01, 'Register map').
 #[test]
 fn offsets_of_the_map() {
     let mut in_map = 0;
@@ -125,19 +126,19 @@ fn offsets_of_the_map() {
         let mut bank = released();
         let read = bank.read(offset);
         let written = bank.write(offset, 0);
-        assert_eq!(read.number == 4, written.number == 4);
-        if read.number != 4 {
+        assert_eq!(read.number == NO_REGISTER, written.number == NO_REGISTER);
+        if read.number != NO_REGISTER {
             in_map += 1;
             assert_eq!(offset % 4, 0);
         }
     }
     assert_eq!(in_map, 3 + 1 + 3 + 11 + 3 + 32);
     for offset in [1, 0x0d5, 0x00c, 0x044, 0x08c, 0x0ec, 0x2bc, 0x2c2, 0x340] {
-        assert_eq!(released().read(offset), refuse(4));
+        assert_eq!(released().read(offset), refuse(NO_REGISTER));
     }
 }
 
-/// 01, number 2: "write to a read-only register, dropped".
+/// Writes to them leave the bank as it was, in reset too (01, 'Register map').
 #[test]
 fn read_only_registers() {
     let offsets = [
@@ -146,13 +147,13 @@ fn read_only_registers() {
     for offset in offsets {
         for mut bank in [fresh(), released()] {
             let before = bank.clone();
-            assert_eq!(bank.write(offset, u32::MAX), refuse(2));
+            assert_eq!(bank.write(offset, u32::MAX), refuse(DROPPED_READ_ONLY));
             assert_eq!(bank, before);
         }
     }
 }
 
-/// 01: "Unnamed bits are ignored on write and read 0".
+/// All ones written; only the bits that the map names come back (01, 'Register map').
 #[test]
 fn kept_bits() {
     for mut bank in [fresh(), released()] {
@@ -177,8 +178,7 @@ fn kept_bits() {
     assert_eq!(bank.read(0x40), done(0));
 }
 
-/// 01: "0x2c0 to 0x2fc, 0x300 to 0x33c: sixteen offload commands, sixteen offload
-/// data words; all read and write".
+/// Thirty-two words, none of them another's (01, 'Register map').
 #[test]
 fn offload_memories() {
     let mut bank = fresh();
@@ -190,8 +190,7 @@ fn offload_memories() {
     }
 }
 
-/// 01, DEV_CHAR: "Every write selects the address; with bit 8 set it also stores
-/// the three flags."
+/// A write without bit 8 changes what is shown, not what is stored (01, 'Register map').
 #[test]
 fn device_table() {
     let mut bank = fresh();
@@ -205,26 +204,27 @@ fn device_table() {
     assert_eq!(bank.read(0x180), done(0x1004));
 }
 
-/// 01, number 5: "held in reset: CMD or SDO write, or any bus event".
+/// Which calls a reset refuses; `OUT_OF_RANGE` goes before that (01, 'Numbers that come
+/// back').
 #[test]
 fn held_in_reset() {
     let mut bank = fresh();
-    assert_eq!(bank.write(0xd4, 0), refuse(5));
-    assert_eq!(bank.write(0xdc, 0), refuse(5));
-    assert_eq!(bank.start(&[]), refuse(5));
-    assert_eq!(bank.send(&[]), refuse(5));
-    assert_eq!(bank.receive(0, &[]), refuse(5));
-    assert_eq!(bank.finish(15, &mut []), refuse(5));
-    assert_eq!(bank.finish(16, &mut []), refuse(18));
-    assert_eq!(bank.interrupt_request(127, 0, &[]), refuse(5));
-    assert_eq!(bank.interrupt_request(128, 0, &[]), refuse(18));
-    assert_eq!(bank.address_request(0, 0, &[]), refuse(5));
-    assert_eq!(bank.address_take(&[]), refuse(5));
+    assert_eq!(bank.write(0xd4, 0), refuse(HELD_IN_RESET));
+    assert_eq!(bank.write(0xdc, 0), refuse(HELD_IN_RESET));
+    assert_eq!(bank.start(&[]), refuse(HELD_IN_RESET));
+    assert_eq!(bank.send(&[]), refuse(HELD_IN_RESET));
+    assert_eq!(bank.receive(0, &[]), refuse(HELD_IN_RESET));
+    assert_eq!(bank.finish(15, &mut []), refuse(HELD_IN_RESET));
+    assert_eq!(bank.finish(16, &mut []), refuse(OUT_OF_RANGE));
+    assert_eq!(bank.interrupt_request(127, 0, &[]), refuse(HELD_IN_RESET));
+    assert_eq!(bank.interrupt_request(128, 0, &[]), refuse(OUT_OF_RANGE));
+    assert_eq!(bank.address_request(0, 0, &[]), refuse(HELD_IN_RESET));
+    assert_eq!(bank.address_take(&[]), refuse(HELD_IN_RESET));
     assert_eq!(bank, fresh());
 }
 
-/// 01, ENABLE: "Writing 1 resets queues, transfer, pending bits and syncs and holds
-/// them; other registers and the device table stay."
+/// A reset in the middle of all leaves a fresh bank with the registers that the driver
+/// wrote (01, 'Register map').
 #[test]
 fn reset_keeps_the_other_registers() {
     let mut bank = with_device();
@@ -266,7 +266,7 @@ fn reset_keeps_the_other_registers() {
     assert_eq!(bank.interrupt_request(9, 9, &[]), done(0x0012_0900));
 }
 
-/// 01, ENABLE: "once released it changes nothing."
+/// The second one leaves an open transfer (01, 'Register map').
 #[test]
 fn release_twice() {
     let mut bank = with_device();
@@ -279,8 +279,7 @@ fn release_twice() {
 
 // Interrupt sources.
 
-/// 01: "Source bits: 0 CMD level below its watermark; ... 2 SDO below". At the
-/// watermark the bit is 0.
+/// Source bits 0 and 2; at the watermark they are 0 (01, 'Register map').
 #[test]
 fn almost_empty() {
     let mut bank = released();
@@ -291,7 +290,7 @@ fn almost_empty() {
     assert_eq!(value_at(&mut bank, 0x88), 0x00);
 }
 
-/// 01: "1 CMDR above; ... 3 SDI above; 4 IBI above". At the watermark the bit is 0.
+/// Source bits 1, 3 and 4; at the watermark they are 0 (01, 'Register map').
 #[test]
 fn almost_full() {
     let mut bank = with_device();
@@ -307,12 +306,11 @@ fn almost_full() {
     }
     started(&mut bank, &[0x111]);
     bank.receive(0, &[]);
-    assert_eq!(bank.finish(0, &mut []), refuse(13));
+    assert_eq!(bank.finish(0, &mut []), refuse(NO_ROOM));
     assert_eq!(value_at(&mut bank, 0x100), 0);
 }
 
-/// 01: "IRQ_PENDING reads source AND mask; a 1 written to bits 5 to 7 clears that
-/// pending bit"; a masked bit too.
+/// The mask hides source bits; a 1 clears a stored one, hidden or not (01, 'Register map').
 #[test]
 fn pending_and_mask() {
     let mut bank = with_device();
@@ -330,7 +328,8 @@ fn pending_and_mask() {
     assert_eq!(value_at(&mut bank, 0xc4), 1);
 }
 
-/// 01: "A read that empties CMDR clears bit 5, IBI bit 6".
+/// The read of the last entry clears bit 5 or 6, an earlier one does not (01, 'Register
+/// map').
 #[test]
 fn emptying_reads_clear_pending() {
     let mut bank = with_device();
@@ -354,29 +353,28 @@ fn emptying_reads_clear_pending() {
 
 // Start.
 
-/// 01, Start: "5, 6, 8, 9, 15."
+/// Each refusal while those behind it would hold too (01, 'Bus events').
 #[test]
 fn start_order() {
     let mut bank = with_device();
-    assert_eq!(bank.start(&[]), refuse(9));
+    assert_eq!(bank.start(&[]), refuse(NO_COMMAND));
     bank.write(0x100, 1);
-    assert_eq!(bank.start(&[]), refuse(8));
+    assert_eq!(bank.start(&[]), refuse(NOT_IN_THIS_MODE));
     bank.write(0x100, 0);
     started(&mut bank, &[0x10]);
     bank.write(0x100, 1);
-    assert_eq!(bank.start(&[]), refuse(6));
+    assert_eq!(bank.start(&[]), refuse(TRANSFER_OPEN));
     assert_eq!(bank.finish(0, &mut []), done(0));
     bank.write(0x100, 0x7e);
     bank.write(0xdc, 0);
     bank.write(0xd4, CCC);
-    assert_eq!(bank.start(&[]), refuse(9));
+    assert_eq!(bank.start(&[]), refuse(NO_COMMAND));
     bank.write(0xd4, 7);
-    assert_eq!(bank.start(&[]), refuse(15));
+    assert_eq!(bank.start(&[]), refuse(SDO_NOT_EMPTY));
     assert_eq!(value_at(&mut bank, 0xc0), 2);
 }
 
-/// 01: "a word written to CMD or SDO is queued whole"; Start: "value is its first
-/// word."
+/// Bits that mean nothing come back too (01, 'Register map', 'Bus events').
 #[test]
 fn start_gives_the_whole_first_word() {
     let mut bank = released();
@@ -385,25 +383,31 @@ fn start_gives_the_whole_first_word() {
     assert_eq!(value_at(&mut bank, 0x100), 0);
 }
 
-/// 01: "For a private transfer or direct CCC it notes whether the device is
-/// attached now."
+/// A device attached or detached later makes no difference; broadcasts and ENTDAA need none
+/// (01, 'Bus events').
 #[test]
 fn attached_is_noted_at_start() {
     let mut bank = with_device();
     started(&mut bank, &[PRIVATE_READ_5]);
     bank.write(0x180, 0x1100);
     assert_eq!(bank.receive(1, &[]), done(0));
-    assert_eq!(bank.finish(8, &mut []), refuse(14));
+    assert_eq!(bank.finish(8, &mut []), refuse(ENDING_NOT_ALLOWED));
     assert_eq!(bank.finish(0, &mut []), done(0x100));
 
     started(&mut bank, &[PRIVATE_READ_5]);
     bank.write(0x180, 0x1102);
-    assert_eq!(bank.receive(1, &[]), refuse(20));
-    assert_eq!(bank.send(&[]), refuse(20));
-    assert_eq!(bank.finish(0, &mut []), refuse(14));
+    assert_eq!(bank.receive(1, &[]), refuse(NOT_ATTACHED));
+    assert_eq!(bank.send(&[]), refuse(NOT_ATTACHED));
+    assert_eq!(bank.finish(0, &mut []), refuse(ENDING_NOT_ALLOWED));
     assert_eq!(bank.finish(8, &mut []), done(0x0080_0001));
 
-    for (second, number) in [(0x80, 20), (0x87, 20), (0x00, 0), (0x06, 0), (0x107, 10)] {
+    for (second, number) in [
+        (0x80, NOT_ATTACHED),
+        (0x87, NOT_ATTACHED),
+        (0x00, DONE),
+        (0x06, DONE),
+        (0x107, NOT_THIS_KIND),
+    ] {
         let mut bank = released();
         started(&mut bank, &[CCC | 0x111, second]);
         assert_eq!(bank.receive(1, &[]).number, number, "{second:#x}");
@@ -412,33 +416,33 @@ fn attached_is_noted_at_start() {
 
 // Payload.
 
-/// 01, Send: "A word leaves SDO with its first byte, and only there can 12 arise;
-/// bytes past the length are dropped."
+/// SDO loses a word with every fourth byte, from the first on; the next transfer begins
+/// with a new one (01, 'Bus events').
 #[test]
 fn send_takes_words() {
     let mut bank = with_device();
     started(&mut bank, &[0x510]);
-    assert_eq!(bank.send(&[]), refuse(12));
+    assert_eq!(bank.send(&[]), refuse(SDO_EMPTY));
     bank.write(0xdc, 0x0102_0304);
     assert_eq!(value_at(&mut bank, 0xc8), 3);
     for byte in 1..=4 {
         assert_eq!(bank.send(&[]), done(byte));
         assert_eq!(value_at(&mut bank, 0xc8), 4);
     }
-    assert_eq!(bank.send(&[]), refuse(12));
+    assert_eq!(bank.send(&[]), refuse(SDO_EMPTY));
     for code in 0..=15 {
-        assert_eq!(bank.finish(code, &mut []), refuse(14));
+        assert_eq!(bank.finish(code, &mut []), refuse(ENDING_NOT_ALLOWED));
     }
     bank.write(0xdc, 0x0506_0708);
     bank.write(0xdc, 0x090a_0b0c);
     assert_eq!(bank.send(&[]), done(5));
-    assert_eq!(bank.send(&[]), refuse(11));
+    assert_eq!(bank.send(&[]), refuse(LENGTH_REACHED));
     assert_eq!(bank.finish(0, &mut []), done(0x500));
     started(&mut bank, &[0x110]);
     assert_eq!(bank.send(&[]), done(9));
 }
 
-/// 01: "After a write that was not acknowledged its data words stay in SDO."
+/// A failed write takes no word out of SDO (01, 'Bus events').
 #[test]
 fn not_acknowledged_write_keeps_sdo() {
     let mut bank = with_device();
@@ -448,7 +452,8 @@ fn not_acknowledged_write_keeps_sdo() {
     assert_eq!(value_at(&mut bank, 0xc8), 3);
 }
 
-/// 01, Receive: "13 only when that push has no room."
+/// Three bytes still come when SDI is full; the fourth, and a finish, need a place (01,
+/// 'Bus events').
 #[test]
 fn receive_without_room() {
     let mut bank = with_device();
@@ -460,8 +465,8 @@ fn receive_without_room() {
         assert_eq!(bank.receive(byte, &[]), done(0));
     }
     let before = bank.clone();
-    assert_eq!(bank.receive(19, &[]), refuse(13));
-    assert_eq!(bank.finish(0, &mut []), refuse(13));
+    assert_eq!(bank.receive(19, &[]), refuse(NO_ROOM));
+    assert_eq!(bank.finish(0, &mut []), refuse(NO_ROOM));
     assert_eq!(bank, before);
     assert_eq!(bank.read(0xe0), done(0x0001_0203));
     assert_eq!(bank.receive(19, &[]), done(0));
@@ -469,23 +474,24 @@ fn receive_without_room() {
     assert_eq!(bank.finish(0, &mut []), done(0x1400));
 }
 
-/// 01, number 10: "a read or ENTDAA", "a write or ENTDAA"; tested before 11.
+/// Bytes against the direction, and in ENTDAA; `NOT_THIS_KIND` goes before
+/// `LENGTH_REACHED` (01, 'Bus events').
 #[test]
 fn wrong_direction() {
     let mut bank = with_device();
     started(&mut bank, &[0x11]);
-    assert_eq!(bank.send(&[]), refuse(10));
-    assert_eq!(bank.receive(0, &[]), refuse(11));
+    assert_eq!(bank.send(&[]), refuse(NOT_THIS_KIND));
+    assert_eq!(bank.receive(0, &[]), refuse(LENGTH_REACHED));
     assert_eq!(bank.finish(0, &mut []), done(0));
     started(&mut bank, &[0x10]);
-    assert_eq!(bank.receive(0, &[]), refuse(10));
-    assert_eq!(bank.send(&[]), refuse(11));
+    assert_eq!(bank.receive(0, &[]), refuse(NOT_THIS_KIND));
+    assert_eq!(bank.send(&[]), refuse(LENGTH_REACHED));
     assert_eq!(bank.finish(0, &mut []), done(1));
     for first in [CCC | 0x500, CCC | 0x501] {
         let mut bank = released();
         started(&mut bank, &[first, 7]);
-        assert_eq!(bank.send(&[]), refuse(10));
-        assert_eq!(bank.receive(0, &[]), refuse(10));
+        assert_eq!(bank.send(&[]), refuse(NOT_THIS_KIND));
+        assert_eq!(bank.receive(0, &[]), refuse(NOT_THIS_KIND));
     }
     let mut bank = released();
     for answer in [
@@ -493,10 +499,10 @@ fn wrong_direction() {
         bank.receive(0, &[]),
         bank.finish(0, &mut []),
     ] {
-        assert_eq!(answer, refuse(7));
+        assert_eq!(answer, refuse(NO_TRANSFER));
     }
-    assert_eq!(bank.address_request(0, 0, &[]), refuse(7));
-    assert_eq!(bank.address_take(&[]), refuse(7));
+    assert_eq!(bank.address_request(0, 0, &[]), refuse(NO_TRANSFER));
+    assert_eq!(bank.address_take(&[]), refuse(NO_TRANSFER));
 }
 
 // Endings.
@@ -515,17 +521,17 @@ fn endings(words: &[u32], attached: bool, moved: usize) -> Vec<u8> {
         } else {
             bank.send(&[])
         };
-        assert_eq!(answer.number, 0);
+        assert_eq!(answer.number, DONE);
     }
     (0..=15)
-        .filter(|code| bank.clone().finish(*code, &mut []).number == 0)
+        .filter(|code| bank.clone().finish(*code, &mut []).number == DONE)
         .collect()
 }
 
-/// 01, Finish: the whole list of endings but ENTDAA's.
+/// Every ending but ENTDAA's (01, 'Bus events').
 #[test]
 fn endings_allowed() {
-    // "device unattached, code 8 only."
+    // Not attached.
     for words in [
         &[0x210][..],
         &[0x211],
@@ -572,8 +578,8 @@ fn endings_allowed() {
     }
 }
 
-/// 01, Finish: "13 if a word to be pushed has no room; then nothing is pushed";
-/// Readings that look right: the sync is not raised by a refused finish.
+/// A refused finish pushes nothing and raises no sync (01, 'Bus events', 'Readings that
+/// look right').
 #[test]
 fn finish_without_room() {
     let mut bank = with_device();
@@ -584,9 +590,9 @@ fn finish_without_room() {
     started(&mut bank, &[PRIVATE_READ_5]);
     bank.receive(7, &[]);
     let before = bank.clone();
-    assert_eq!(bank.finish(0, &mut []), refuse(13));
-    assert_eq!(bank.finish(1, &mut []), refuse(14));
-    assert_eq!(bank.finish(16, &mut []), refuse(18));
+    assert_eq!(bank.finish(0, &mut []), refuse(NO_ROOM));
+    assert_eq!(bank.finish(1, &mut []), refuse(ENDING_NOT_ALLOWED));
+    assert_eq!(bank.finish(16, &mut []), refuse(OUT_OF_RANGE));
     assert_eq!(bank, before);
     assert_eq!(bank.read(0xd8), done(0));
     assert_eq!(bank.finish(0, &mut []), done(0x104));
@@ -595,26 +601,25 @@ fn finish_without_room() {
 
 // Interrupt requests.
 
-/// 01, Interrupt request: "5, 6, 16 (listen 0), 17 (enable 0, or not attached, or
-/// may not interrupt), 13."
+/// Each refusal in its turn (01, 'Bus events').
 #[test]
 fn interrupt_order() {
     let mut bank = with_device();
     started(&mut bank, &[0x10]);
-    assert_eq!(bank.interrupt_request(128, 0, &[]), refuse(18));
-    assert_eq!(bank.interrupt_request(8, 0, &[]), refuse(6));
+    assert_eq!(bank.interrupt_request(128, 0, &[]), refuse(OUT_OF_RANGE));
+    assert_eq!(bank.interrupt_request(8, 0, &[]), refuse(TRANSFER_OPEN));
     bank.finish(0, &mut []);
-    assert_eq!(bank.interrupt_request(8, 0, &[]), refuse(16));
+    assert_eq!(bank.interrupt_request(8, 0, &[]), refuse(NOT_HEARD));
     bank.write(0x140, 1);
-    assert_eq!(bank.interrupt_request(8, 0, &[]), refuse(16));
+    assert_eq!(bank.interrupt_request(8, 0, &[]), refuse(NOT_HEARD));
     bank.write(0x140, 2);
     bank.write(0x180, 0x1106);
-    assert_eq!(bank.interrupt_request(8, 0, &[]), refuse(17));
+    assert_eq!(bank.interrupt_request(8, 0, &[]), refuse(NOT_ACKNOWLEDGED));
     bank.write(0x140, 3);
     bank.write(0x180, 0x1104);
-    assert_eq!(bank.interrupt_request(8, 0, &[]), refuse(17));
+    assert_eq!(bank.interrupt_request(8, 0, &[]), refuse(NOT_ACKNOWLEDGED));
     bank.write(0x180, 0x110a);
-    assert_eq!(bank.interrupt_request(8, 0, &[]), refuse(17));
+    assert_eq!(bank.interrupt_request(8, 0, &[]), refuse(NOT_ACKNOWLEDGED));
     bank.write(0x180, 0x1106);
     for sync in 0..4 {
         assert_eq!(
@@ -622,7 +627,7 @@ fn interrupt_order() {
             done(0x0010_0000 | sync)
         );
     }
-    assert_eq!(bank.interrupt_request(8, 0xff, &[]), refuse(13));
+    assert_eq!(bank.interrupt_request(8, 0xff, &[]), refuse(NO_ROOM));
     assert_eq!(bank.read(0xe4), done(0x0010_0000));
     assert_eq!(bank.interrupt_request(8, 0xff, &[]), done(0x0010_0004));
     assert_eq!(bank.interrupt_sync, 5);
@@ -631,42 +636,42 @@ fn interrupt_order() {
 
 // Address assignment.
 
-/// 01: "ENTDAA, 0 with no request open, 4 with none made since start."
+/// Requests, takes and endings of one assignment (01, 'Bus events').
 #[test]
 fn entdaa() {
     let codes = |bank: &Bank| -> Vec<u8> {
         (0..=15)
-            .filter(|code| bank.clone().finish(*code, &mut []).number == 0)
+            .filter(|code| bank.clone().finish(*code, &mut []).number == DONE)
             .collect()
     };
     let mut bank = released();
     started(&mut bank, &[CCC | 0x511, 0x107]);
     assert_eq!(codes(&bank), [0, 4]);
-    assert_eq!(bank.address_take(&[]), refuse(10));
+    assert_eq!(bank.address_take(&[]), refuse(NOT_THIS_KIND));
     assert_eq!(bank.address_request(0xaaaa_aaaa, 0x5555_5555, &[]), done(0));
     assert_eq!(value_at(&mut bank, 0x88), 0x85);
-    assert_eq!(bank.address_request(0, 0, &[]), refuse(10));
-    assert_eq!(bank.address_take(&[]), refuse(12));
+    assert_eq!(bank.address_request(0, 0, &[]), refuse(NOT_THIS_KIND));
+    assert_eq!(bank.address_take(&[]), refuse(SDO_EMPTY));
     assert_eq!(codes(&bank), []);
     bank.write(0xdc, 0x10ff_ffff);
     assert_eq!(value_at(&mut bank, 0x88), 0x01);
     assert_eq!(bank.address_take(&[]), done(8));
     assert_eq!(value_at(&mut bank, 0x88), 0x05);
     assert_eq!(codes(&bank), [0]);
-    assert_eq!(bank.address_take(&[]), refuse(10));
+    assert_eq!(bank.address_take(&[]), refuse(NOT_THIS_KIND));
     assert_eq!(bank.address_request(1, 2, &[]), done(0));
     assert_eq!(bank.write(0xdc, 0x1300_0000), done(0));
     assert_eq!(bank.address_take(&[]), done(9));
-    assert_eq!(bank.address_request(3, 4, &[]), refuse(13));
+    assert_eq!(bank.address_request(3, 4, &[]), refuse(NO_ROOM));
     assert_eq!(bank.read(0xe0), done(0xaaaa_aaaa));
-    assert_eq!(bank.address_request(3, 4, &[]), refuse(13));
+    assert_eq!(bank.address_request(3, 4, &[]), refuse(NO_ROOM));
     assert_eq!(bank.read(0xe0), done(0x5555_5555));
     assert_eq!(bank.finish(0, &mut []), done(0));
     assert_eq!(bank.read(0xe0), done(1));
     assert_eq!(bank.read(0xe0), done(2));
 }
 
-/// 01: "7 set by an address request (and by answer 19) when SDO is then empty."
+/// Source bit 7 asks for a word only where none waits (01, 'Register map').
 #[test]
 fn pending_address() {
     let mut bank = released();
@@ -675,31 +680,34 @@ fn pending_address() {
     bank.write(0xdc, 0x1200_0000);
     assert_eq!(bank.address_request(1, 2, &[]), done(0));
     assert_eq!(value_at(&mut bank, 0x88) & 0x80, 0);
-    let nineteen = |value| Answer { value, number: 19 };
-    assert_eq!(bank.address_take(&[]), nineteen(8));
+    let wrong_parity = |value| Answer {
+        value,
+        number: WRONG_PARITY,
+    };
+    assert_eq!(bank.address_take(&[]), wrong_parity(8));
     assert_eq!(value_at(&mut bank, 0x88) & 0x80, 0);
-    assert_eq!(bank.address_take(&[]), nineteen(9));
+    assert_eq!(bank.address_take(&[]), wrong_parity(9));
     assert_eq!(value_at(&mut bank, 0x88) & 0x80, 0x80);
-    assert_eq!(bank.finish(0, &mut []), refuse(14));
+    assert_eq!(bank.finish(0, &mut []), refuse(ENDING_NOT_ALLOWED));
     bank.write(0x84, 0x80);
     assert_eq!(value_at(&mut bank, 0x88) & 0x80, 0);
-    assert_eq!(bank.address_take(&[]), refuse(12));
+    assert_eq!(bank.address_take(&[]), refuse(SDO_EMPTY));
     bank.write(0xdc, 0);
-    assert_eq!(bank.address_take(&[]), nineteen(0));
+    assert_eq!(bank.address_take(&[]), wrong_parity(0));
     bank.write(0xdc, 0xfe00_0000);
     assert_eq!(bank.address_take(&[]), done(0x7f));
-    assert_eq!(bank.finish(4, &mut []), refuse(14));
+    assert_eq!(bank.finish(4, &mut []), refuse(ENDING_NOT_ALLOWED));
     assert_eq!(bank.finish(0, &mut []), done(0));
 }
 
-/// 01, Address request and take: "10 (not ENTDAA ...)"; 0x87 is not ENTDAA.
+/// Other transfers refuse them; 0x87 is no ENTDAA (01, 'Bus events').
 #[test]
 fn address_events_need_entdaa() {
     for words in [&[0x10][..], &[0x1e], &[CCC, 6], &[CCC | 0x10, 0x87]] {
         let mut bank = with_device();
         started(&mut bank, words);
-        assert_eq!(bank.address_request(0, 0, &[]), refuse(10));
-        assert_eq!(bank.address_take(&[]), refuse(10));
+        assert_eq!(bank.address_request(0, 0, &[]), refuse(NOT_THIS_KIND));
+        assert_eq!(bank.address_take(&[]), refuse(NOT_THIS_KIND));
     }
     let mut bank = with_device();
     bank.write(0xdc, 0);
@@ -795,7 +803,7 @@ fn random_call(random: &mut Random) -> Call {
     }
 }
 
-/// 01, What demand 3 counts: "All is counted from the calls and their answers".
+/// What calls and answers tell, without a look into the bank (01, 'What demand 3 counts').
 #[derive(Default)]
 struct Count {
     released: bool,
@@ -807,13 +815,12 @@ struct Count {
     receipts_read: Vec<u32>,
     room_seen: bool,
     offload_length: u32,
-    /// 02: "demand 3 speaks of direct commands only".
+    /// Transfers of a burst that are still to come; demand 3 leaves them out (02 §3).
     burst_left: u32,
 }
 
 impl Count {
-    /// "a word with bit 22 set and the next are one command, any other word is
-    /// one."
+    /// One word each, two for a CCC.
     fn commands(&self) -> Vec<Vec<u32>> {
         let mut commands = Vec::new();
         let mut rest = self.words.as_slice();
@@ -839,15 +846,15 @@ impl Count {
         } = *call
         {
             if self.released && self.room_seen {
-                assert_eq!(answer.number, 0, "written after a read of the room");
+                assert_eq!(answer.number, DONE, "room was read, word refused");
             }
             self.room_seen = false;
-            if answer.number == 0 {
+            if answer.number == DONE {
                 self.words.push(value);
             }
             return;
         }
-        if answer.number != 0 {
+        if answer.number != DONE {
             return;
         }
         match *call {
@@ -907,8 +914,7 @@ impl Count {
         self.moved += 1;
     }
 
-    /// "its sync the number of earlier receipts modulo 256, its length the payload
-    /// bytes moved for it, never above the commanded length."
+    /// The whole receipt is known from the calls before it (00, demand 3).
     fn note_finish(&mut self, code: u8, receipt: u32) {
         assert!(self.open);
         self.open = false;
@@ -950,7 +956,7 @@ fn is_entdaa(command: &[u32]) -> bool {
     command.len() == 2 && command[1] & 0xff == 7
 }
 
-/// 01 and 02, Well formed, as far as this engine has the parts.
+/// Well formed, as far as this engine has the parts (01, 'Numbers that come back'; 02 §3).
 fn check_well_formed(bank: &Bank) {
     for queue in [&bank.cmd, &bank.cmdr, &bank.sdo, &bank.sdi, &bank.ibi] {
         assert!(queue.level() <= queue.capacity);
@@ -970,9 +976,8 @@ fn check_well_formed(bank: &Bank) {
         assert!(transfer.attached || moved == 0);
         let (left, gathered) = (transfer.left.len() as u32, transfer.gathered.len() as u32);
         if let Some(place) = transfer.burst_place {
-            // 02: "an open burst pass 8, 28 and 29 and stand at one of its commands,
-            // with that one's transfer open and its counts as that place says, a
-            // read's up to 4 bytes all gathered".
+            // The trigger would not refuse it, the transfer is its command's, and a read
+            // keeps every byte.
             let commands = bank.burst_commands();
             assert!(bank.is_in_offload_mode());
             assert!(commands.iter().all(|word| is_carried(*word)));
@@ -993,7 +998,7 @@ fn check_well_formed(bank: &Bank) {
 
 #[test]
 fn random_calls_keep_demand_3() {
-    let mut seen = [false; 30];
+    let mut seen = [false; 1 + NOT_CARRIED as usize];
     let mut most_receipts = 0;
     let mut words_written = 0;
     for seed in 0..60 {
@@ -1031,7 +1036,7 @@ fn random_calls_keep_demand_3() {
                 words_written += 1;
             }
             seen[usize::from(answer.number)] = true;
-            if answer.number != 0 && answer.number != 19 {
+            if answer.number != DONE && answer.number != WRONG_PARITY {
                 assert_eq!(answer.value, 0);
                 assert_eq!(bank, before);
             }
@@ -1043,8 +1048,19 @@ fn random_calls_keep_demand_3() {
     }
     // Every number but those that need a bank or store not well formed, a set-up or
     // a trace.
-    let not_seen: Vec<usize> = (0..30).filter(|n| !seen[*n]).collect();
-    assert_eq!(not_seen, [21, 22, 23, 24, 25, 26, 27]);
+    let not_seen: Vec<u8> = (DONE..=NOT_CARRIED)
+        .filter(|number| !seen[usize::from(*number)])
+        .collect();
+    let expected = [
+        NOT_WELL_FORMED,
+        STORE_LENGTH,
+        SET_UP_OUT_OF_RANGE,
+        WRONG_MARK,
+        WRONG_TABLE,
+        NO_SUCH_SECTION,
+        WRONG_RECORD,
+    ];
+    assert_eq!(not_seen, expected);
     assert!(most_receipts > 0);
     assert!(words_written > 500);
 }

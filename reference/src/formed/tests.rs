@@ -141,7 +141,7 @@ fn sound_images() {
         assert!(!well_formed(&[&image[..], &[0]].concat()));
     }
     assert!(!well_formed(&[]));
-    // What a set-up answered 23 gives.
+    // What a refused set-up gives.
     assert!(!well_formed(&[0; IMAGE_WORDS]));
 }
 
@@ -347,11 +347,11 @@ fn clear_in_reset() {
 fn bursts_that_a_trigger_opens() {
     let clause = burst_passes_trigger;
     assert_kept(clause, &in_burst());
-    // Mode 0 (8), length 0 (28).
+    // Mode 0, length 0.
     assert_broken(clause, &with(in_burst(), &[(OPS, 0b100)]));
     assert_broken(clause, &with(in_burst(), &[(OPS, 0b001)]));
     assert_kept(clause, &with(in_burst(), &[(OPS, 0b110_0101)]));
-    // The second command, which still waits: a CCC, and longer than 4 bytes (29).
+    // The second command, which still waits: a CCC, and longer than 4 bytes.
     let second = |word: u32| with(in_burst(), &[(COMMANDS + 1, word)]);
     assert_kept(clause, &second(0xffb0_04ff));
     assert_broken(clause, &second(0x0040_0010));

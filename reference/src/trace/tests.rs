@@ -5,6 +5,7 @@ mod program;
 use super::*;
 use crate::engine::{set_up, SetupNumbers, SESSION_NUMBERS};
 use crate::lines::{parse_line, Mode, Request};
+use crate::number::*;
 
 type Record = [u8; RECORD_BYTES];
 
@@ -81,7 +82,7 @@ fn small_trace() -> Vec<u8> {
 
 const NOTHING: Answer = Answer {
     value: 0,
-    number: 0,
+    number: DONE,
 };
 
 fn refused(number: u8) -> Replay {
@@ -105,20 +106,20 @@ fn the_form_byte_by_byte() {
         W\0\xd4\x00\x10\x02\x00\x00\x00\x00\x00\x00\
         S\0\x00\x00\x00\x00\x00\x00\x00\x00\x00\x00";
     assert_eq!(small_trace(), bytes);
-    assert_eq!(check(bytes), 0);
+    assert_eq!(check(bytes), DONE);
 }
 
-/// 02: "24 mark wrong or cut short, 25 ... file ... too short or too long".
+/// Within the mark a cut is `WRONG_MARK`, behind it `WRONG_TABLE`; so is each byte too many.
 #[test]
 fn cut_at_each_byte_or_too_long() {
     let mut bytes = small_trace();
     for length in 0..bytes.len() {
-        let expected = if length < 4 { 24 } else { 25 };
+        let expected = if length < 4 { WRONG_MARK } else { WRONG_TABLE };
         assert_eq!(check(&bytes[..length]), expected, "{length}");
     }
     for more in 1..=24 {
         bytes.push(0);
-        assert_eq!(check(&bytes), 25, "{more}");
+        assert_eq!(check(&bytes), WRONG_TABLE, "{more}");
     }
 }
 
@@ -130,82 +131,86 @@ fn each_header_byte_changed() {
         for change in 1..=255 {
             let mut changed = bytes.clone();
             changed[place] ^= change;
-            let expected = if place < 4 { 24 } else { 25 };
+            let expected = if place < 4 { WRONG_MARK } else { WRONG_TABLE };
             assert_eq!(check(&changed), expected, "{place} {change}");
         }
     }
 }
 
-/// 02: 27 belongs to the replay.
+/// Only a replay tells wrong records.
 #[test]
 fn the_check_looks_at_no_record() {
     let mut bytes = small_trace();
     bytes[22..].fill(0xff);
-    assert_eq!(check(&bytes), 0);
+    assert_eq!(check(&bytes), DONE);
 }
 
-/// 02: "in that order".
+/// Where both are wrong the mark decides.
 #[test]
 fn mark_before_contents() {
-    assert_eq!(check(b""), 24);
-    assert_eq!(check(b"I3TS"), 24);
-    assert_eq!(check(b"i3tr\x00\x00"), 24);
-    assert_eq!(check(b"I3T"), 24);
-    assert_eq!(check(b"I3TR"), 25);
-    assert_eq!(check(b"I3TR\x01"), 25);
+    assert_eq!(check(b""), WRONG_MARK);
+    assert_eq!(check(b"I3TS"), WRONG_MARK);
+    assert_eq!(check(b"i3tr\x00\x00"), WRONG_MARK);
+    assert_eq!(check(b"I3T"), WRONG_MARK);
+    assert_eq!(check(b"I3TR"), WRONG_TABLE);
+    assert_eq!(check(b"I3TR\x01"), WRONG_TABLE);
     let mut bytes = small_trace();
     bytes[0] = 0;
     bytes.resize(MOST_FILE_BYTES as usize + 1, 0);
-    assert_eq!(check(&bytes), 24);
+    assert_eq!(check(&bytes), WRONG_MARK);
 }
 
-/// 02: "a 16-bit section count (1 to 64)".
+/// From 1 to 64, the low byte first.
 #[test]
 fn count_of_sections() {
     for sections in 0..=300_usize {
         let bytes = trace(&vec![records_of("R 0"); sections]);
-        let expected = if (1..=64).contains(&sections) { 0 } else { 25 };
+        let expected = if (1..=64).contains(&sections) {
+            DONE
+        } else {
+            WRONG_TABLE
+        };
         assert_eq!(check(&bytes), expected, "{sections}");
     }
     // 0x0100 in little-endian order is 256 and 0x0001 is not.
     let mut bytes = trace(&[vec![]]);
-    assert_eq!(check(&bytes), 0);
+    assert_eq!(check(&bytes), DONE);
     bytes[4..6].copy_from_slice(&[0, 1]);
-    assert_eq!(check(&bytes), 25);
+    assert_eq!(check(&bytes), WRONG_TABLE);
 }
 
-/// 02: "sections, numbered from 0, follow in order with no gaps".
+/// Each section begins where the one before it ends.
 #[test]
 fn gaps_and_order() {
     // A gap of one record between the two sections, the file being as long.
     let mut bytes = small_trace();
     bytes.splice(46..46, [0; 12]);
-    assert_eq!(check(&bytes), 25);
+    assert_eq!(check(&bytes), WRONG_TABLE);
     bytes[14..18].copy_from_slice(&58_u32.to_le_bytes());
-    assert_eq!(check(&bytes), 25);
+    assert_eq!(check(&bytes), WRONG_TABLE);
     // A gap before the first.
     let mut bytes = trace(&[records_of("R 0")]);
     bytes.insert(14, 0);
     bytes[6] = 15;
-    assert_eq!(check(&bytes), 25);
+    assert_eq!(check(&bytes), WRONG_TABLE);
     // The two the other way round.
     let mut bytes = small_trace();
     let (first, second) = bytes[6..22].split_at_mut(8);
     first.swap_with_slice(second);
-    assert_eq!(check(&bytes), 25);
+    assert_eq!(check(&bytes), WRONG_TABLE);
     // Two that share their records.
     let mut bytes = trace(&[records_of("R 0"), records_of("R 0")]);
     bytes[14..18].copy_from_slice(&22_u32.to_le_bytes());
-    assert_eq!(check(&bytes), 25);
+    assert_eq!(check(&bytes), WRONG_TABLE);
 }
 
 #[test]
 fn sections_without_records() {
     let sections = [vec![], vec![], records_of("R 0"), vec![]];
     let bytes = trace(&sections);
-    assert_eq!(check(&bytes), 0);
+    assert_eq!(check(&bytes), DONE);
     for (number, records) in sections.iter().enumerate() {
-        assert_eq!(section(&bytes, number), (records.as_flattened(), 0));
+        assert_eq!(section(&bytes, number), (records.as_flattened(), DONE));
     }
     assert_eq!(check(&trace(&vec![vec![]; 64])), 0);
 }
@@ -223,10 +228,10 @@ fn sums_above_32_bits() {
     ] {
         let mut bytes = head(&counts);
         bytes.extend(record(b'R', 0, 0, 0));
-        assert_eq!(check(&bytes), 25, "{counts:?}");
+        assert_eq!(check(&bytes), WRONG_TABLE, "{counts:?}");
     }
     for count in [third, u32::MAX / 12, u32::MAX / 12 + 1, u32::MAX] {
-        assert_eq!(check(&head(&[count])), 25);
+        assert_eq!(check(&head(&[count])), WRONG_TABLE);
         assert_eq!(check(&head(&[count; 64])), 25);
     }
     assert_eq!(check(&head(&[0; 64])), 0);
@@ -237,58 +242,58 @@ fn most_records(sections: usize) -> usize {
     (MOST_FILE_BYTES as usize - 6 - 8 * sections) / 12
 }
 
-/// 02: "file above 16 MiB". A trace has 6 bytes and a multiple of 4, so none has 16 MiB
-/// itself: the longest have 2 bytes less, the shortest too long ones 2 more.
+/// A trace has 6 bytes and a multiple of 4, so none has 16 MiB itself: the longest have 2
+/// bytes less, the shortest too long ones 2 more.
 #[test]
 fn the_longest_files() {
     let mut bytes = head(&[most_records(1) as u32]);
     bytes.resize(14 + 12 * most_records(1), 0);
     assert_eq!(bytes.len(), (16 << 20) - 2);
-    assert_eq!(check(&bytes), 0);
+    assert_eq!(check(&bytes), DONE);
     for _ in 0..4 {
         bytes.push(0);
-        assert_eq!(check(&bytes), 25, "{}", bytes.len());
+        assert_eq!(check(&bytes), WRONG_TABLE, "{}", bytes.len());
     }
 
     let most = most_records(3) as u32;
     let mut bytes = head(&[most - 2, 1, 2]);
     bytes.resize((16 << 20) + 2, 0);
-    assert_eq!(check(&bytes), 25);
+    assert_eq!(check(&bytes), WRONG_TABLE);
     bytes[..30].copy_from_slice(&head(&[most - 2, 1, 1]));
     bytes.truncate((16 << 20) - 10);
-    assert_eq!(check(&bytes), 0);
+    assert_eq!(check(&bytes), DONE);
 }
 
 // Sections.
 
-/// 02: "hands back that stretch of the caller's own bytes, uncopied".
+/// No copy: the same memory.
 #[test]
 fn a_section_is_the_callers_own_bytes() {
     let bytes = small_trace();
     for (number, place) in [(0, 22..46), (1, 46..82)] {
         let (records, answer) = section(&bytes, number);
-        assert_eq!(answer, 0);
+        assert_eq!(answer, DONE);
         assert!(std::ptr::eq(records, &bytes[place]));
     }
 }
 
-/// 02: "empty if refused"; "24 ..., 25 ..., 26 no such section ...; in that order".
+/// They have no bytes; `WRONG_MARK` and `WRONG_TABLE` go before `NO_SUCH_SECTION`.
 #[test]
 fn sections_that_there_are_not() {
     let mut bytes = small_trace();
     let empty: &[u8] = &[];
     for number in [2, 3, 63, 64, 65, 256, 1 << 16, 1 << 32, usize::MAX] {
-        assert_eq!(section(&bytes, number), (empty, 26));
+        assert_eq!(section(&bytes, number), (empty, NO_SUCH_SECTION));
     }
     bytes.pop();
     for number in [0, 1, 2, usize::MAX] {
-        assert_eq!(section(&bytes, number), (empty, 25));
+        assert_eq!(section(&bytes, number), (empty, WRONG_TABLE));
     }
     bytes[3] = b'r';
     for number in [0, 1, 2, usize::MAX] {
-        assert_eq!(section(&bytes, number), (empty, 24));
+        assert_eq!(section(&bytes, number), (empty, WRONG_MARK));
     }
-    assert_eq!(section(b"", 0), (empty, 24));
+    assert_eq!(section(b"", 0), (empty, WRONG_MARK));
 }
 
 // Records.
@@ -331,7 +336,7 @@ fn a_record_is_the_call_of_its_line() {
     }
 }
 
-/// 02: "27 record wrong (letter ...".
+/// Nine of 256 bytes are one.
 #[test]
 fn letters() {
     for letter in 0..=255 {
@@ -353,7 +358,8 @@ fn free_bytes(letter: u8) -> &'static [usize] {
     }
 }
 
-/// 02: "zero parts, or a byte, address or code above 255": each bit of each byte.
+/// Each bit of each byte changed: fields that the letter uses may have any value, others
+/// none but 0.
 #[test]
 fn each_other_byte_of_a_record() {
     for line in GREATEST.iter().chain(&MIXED) {
@@ -370,8 +376,8 @@ fn each_other_byte_of_a_record() {
     }
 }
 
-/// 02: "a byte, address or code above 255"; 255 itself is right, and 01 answers 18 to
-/// the code and the address.
+/// 255 itself makes a right record, though the bank answers
+/// `OUT_OF_RANGE` to such a code or address.
 #[test]
 fn bytes_above_255() {
     for letter in [b'X', b'F', b'I'] {
@@ -383,9 +389,9 @@ fn bytes_above_255() {
     assert!(parse_record(&record(b'I', 0, 0, 255)).is_some());
     assert_eq!(parse_record(&record(b'I', 0, 0, 256)), None);
     let bytes = trace(&[records_of("W 40 0, F ff, I ff ff")]);
-    for (most, number) in [(2, 18), (3, 18)] {
+    for most in [2, 3] {
         let replay = replay(&bytes, 0, most, &mut session_bank());
-        assert_eq!((replay.number, replay.last.number), (0, number));
+        assert_eq!((replay.number, replay.last.number), (DONE, OUT_OF_RANGE));
     }
 }
 
@@ -400,8 +406,7 @@ fn one_by_one(calls: &[Call]) -> (Vec<Answer>, Bank) {
 
 const WORKED: &str = "W 40 0, W 180 1102, W dc a5c30000, W d4 210, S, T, T, F 0, R d8, R d8";
 
-/// 02: "stops after a stated number of records, and gives its number, how many it did
-/// and the last one's answer (0, 0 if it did none)".
+/// From none to more than there are; the rest is as if the calls had come one by one.
 #[test]
 fn a_stated_number_of_records() {
     let calls = calls(WORKED);
@@ -411,7 +416,7 @@ fn a_stated_number_of_records() {
         let (answers, expected) = one_by_one(&calls[..done]);
         let mut bank = session_bank();
         let last = answers.last().copied().unwrap_or(NOTHING);
-        let number = 0;
+        let number = DONE;
         assert_eq!(
             replay(&bytes, 0, most, &mut bank),
             Replay { number, done, last }
@@ -420,17 +425,17 @@ fn a_stated_number_of_records() {
     }
 }
 
-/// 02: "Replay of a section": of that one alone.
+/// The records of the others are not done.
 #[test]
 fn each_section_by_itself() {
     let bytes = small_trace();
     let mut bank = session_bank();
     let last = Answer {
         value: 0,
-        number: 5,
+        number: HELD_IN_RESET,
     };
     let expected = Replay {
-        number: 0,
+        number: DONE,
         done: 3,
         last,
     };
@@ -440,7 +445,7 @@ fn each_section_by_itself() {
     assert_eq!(replay(&bytes, 0, 9, &mut bank).done, 2);
     let last = Answer {
         value: 0x210,
-        number: 0,
+        number: DONE,
     };
     assert_eq!(replay(&bytes, 1, 9, &mut bank), Replay { last, ..expected });
 }
@@ -450,19 +455,25 @@ fn refused_before_the_first_record() {
     let mut bytes = small_trace();
     let mut bank = session_bank();
     for most in [0, 1, usize::MAX] {
-        assert_eq!(replay(&bytes, 2, most, &mut bank), refused(26));
-        assert_eq!(replay(&bytes[..81], 0, most, &mut bank), refused(25));
-        assert_eq!(replay(&bytes[..81], 2, most, &mut bank), refused(25));
-        assert_eq!(replay(&bytes[..3], 2, most, &mut bank), refused(24));
+        assert_eq!(replay(&bytes, 2, most, &mut bank), refused(NO_SUCH_SECTION));
+        assert_eq!(
+            replay(&bytes[..81], 0, most, &mut bank),
+            refused(WRONG_TABLE)
+        );
+        assert_eq!(
+            replay(&bytes[..81], 2, most, &mut bank),
+            refused(WRONG_TABLE)
+        );
+        assert_eq!(replay(&bytes[..3], 2, most, &mut bank), refused(WRONG_MARK));
     }
     bytes.push(0);
-    assert_eq!(replay(&bytes, 0, 1, &mut bank), refused(25));
+    assert_eq!(replay(&bytes, 0, 1, &mut bank), refused(WRONG_TABLE));
     bytes[0] = b'J';
-    assert_eq!(replay(&bytes, 0, 1, &mut bank), refused(24));
+    assert_eq!(replay(&bytes, 0, 1, &mut bank), refused(WRONG_MARK));
     assert_eq!(bank, session_bank());
 }
 
-/// 02: "27 record wrong ..., where replay stops with the earlier records done".
+/// The replay does the records before it and stops there.
 #[test]
 fn a_wrong_record_among_right_ones() {
     let calls = calls(WORKED);
@@ -477,37 +488,56 @@ fn a_wrong_record_among_right_ones() {
         let done = place;
         for most in [place + 1, place + 2, usize::MAX] {
             let mut bank = session_bank();
-            let number = 27;
+            let number = WRONG_RECORD;
             let replay = replay(&bytes, 1, most, &mut bank);
             assert_eq!(replay, Replay { number, done, last });
             assert_eq!(bank, expected);
         }
         // Nor is the wrong one, if the stated number ends before it.
         let mut bank = session_bank();
-        let number = 0;
+        let number = DONE;
         let replay = replay(&bytes, 1, place, &mut bank);
         assert_eq!(replay, Replay { number, done, last });
         assert_eq!(bank, expected);
     }
 }
 
-/// 02: "the rule that a refusal changes nothing holds for each record by itself".
+/// The record counts, and the next one is done.
 #[test]
-fn refusals_and_19_do_not_stop() {
+fn refusals_and_wrong_parity_do_not_stop() {
     let session = "S, R 1, W 0 0, W 40 0, T, F 10, W d4 400000, S, W d4 7, S, D 1 2, \
                    W dc 11000000, A, A, W dc 13000000, A, F 0, R d8";
-    let numbers = [5, 4, 2, 0, 7, 18, 0, 9, 0, 0, 0, 0, 19, 12, 0, 0, 0, 0];
+    let numbers = [
+        HELD_IN_RESET,
+        NO_REGISTER,
+        DROPPED_READ_ONLY,
+        DONE,
+        NO_TRANSFER,
+        OUT_OF_RANGE,
+        DONE,
+        NO_COMMAND,
+        DONE,
+        DONE,
+        DONE,
+        DONE,
+        WRONG_PARITY,
+        SDO_EMPTY,
+        DONE,
+        DONE,
+        DONE,
+        DONE,
+    ];
     let bytes = trace(&[records_of(session)]);
     for (place, number) in numbers.into_iter().enumerate() {
         let replay = replay(&bytes, 0, place + 1, &mut session_bank());
         let seen = (replay.number, replay.done, replay.last.number);
-        assert_eq!(seen, (0, place + 1, number));
+        assert_eq!(seen, (DONE, place + 1, number));
     }
-    let to_19 = replay(&bytes, 0, 13, &mut session_bank());
-    assert_eq!(to_19.last.value, 8);
+    let to_wrong_parity = replay(&bytes, 0, 13, &mut session_bank());
+    assert_eq!(to_wrong_parity.last.value, 8);
 }
 
-/// A set-up answered 23 leaves a bank on which each record is 21.
+/// A refused set-up leaves a bank on which each record is `NOT_WELL_FORMED`.
 #[test]
 fn on_a_bank_that_is_not_well_formed() {
     let numbers = SetupNumbers {
@@ -518,10 +548,10 @@ fn on_a_bank_that_is_not_well_formed() {
     let before = bank.clone();
     let last = Answer {
         value: 0,
-        number: 21,
+        number: NOT_WELL_FORMED,
     };
     let expected = Replay {
-        number: 0,
+        number: DONE,
         done: 2,
         last,
     };
@@ -529,17 +559,16 @@ fn on_a_bank_that_is_not_well_formed() {
     assert_eq!(bank, before);
 }
 
-/// 02, section 3: "13 output shorter than the reads (at each event in an open burst
-/// too, after 18; replay lends an empty one)".
+/// A burst that reads needs an output, and a replay has none to lend (02 §3).
 #[test]
 fn in_an_open_burst() {
     let open_burst = |command: u32| {
         let mut bank = session_bank();
         for line in ["W 40 0", "W 180 1102", "W 100 3", "W 300 a5000000"] {
-            assert_eq!(bank.call(&call(line), &mut []).number, 0);
+            assert_eq!(bank.call(&call(line), &mut []).number, DONE);
         }
-        assert_eq!(bank.write(0x2c0, command).number, 0);
-        assert_eq!(bank.trigger(&[0]).number, 0);
+        assert_eq!(bank.write(0x2c0, command).number, DONE);
+        assert_eq!(bank.trigger(&[0]).number, DONE);
         bank
     };
     let numbers_of = |session: &str, mut bank: Bank| -> Vec<u8> {
@@ -549,9 +578,31 @@ fn in_an_open_burst() {
         replays.map(|replay| replay.last.number).collect()
     };
     let session = "F 10, S, T, X 5a, F 0, I 8 0, D 0 0, A, W 100 0, R 100";
-    let a_read = [18, 13, 13, 13, 13, 13, 13, 13, 6, 0];
+    let a_read = [
+        OUT_OF_RANGE,
+        NO_ROOM,
+        NO_ROOM,
+        NO_ROOM,
+        NO_ROOM,
+        NO_ROOM,
+        NO_ROOM,
+        NO_ROOM,
+        TRANSFER_OPEN,
+        DONE,
+    ];
     assert_eq!(numbers_of(session, open_burst(0x111)), a_read);
     // A burst without reads needs no output.
-    let a_write = [18, 6, 0, 10, 0, 16, 7, 7, 0, 0];
+    let a_write = [
+        OUT_OF_RANGE,
+        TRANSFER_OPEN,
+        DONE,
+        NOT_THIS_KIND,
+        DONE,
+        NOT_HEARD,
+        NO_TRANSFER,
+        NO_TRANSFER,
+        DONE,
+        DONE,
+    ];
     assert_eq!(numbers_of(session, open_burst(0x110)), a_write);
 }

@@ -1,4 +1,4 @@
--- `buffer::shift` meets its contract: a byte is read from where none has been written yet.
+-- `buffer::shift` meets its contract: each byte is read from a place that has not been written yet.
 use borrow.Author.Needs.{needs}
 use Prim.Native.Nat.{ℕ, suc, _+_, _-_, _≤_, _<_}
 use native.Mathlib.Omega.{arith}
@@ -10,7 +10,7 @@ use Rattle.buffer.proofs.shift.Statement.{statement}
 use Rattle.buffer.proofs.shift.Tie as tie
 
 module _ (old : List ℕ) (used k : ℕ) (buf : List ℕ) (same : length buf ≡ length old) (done : take k buf ≡ take k (drop used old)) (rest : drop k buf ≡ drop k old) (inside : used + k < length old) where
-  -- the byte at hand is the old one
+  -- the byte that is moved is still the one that was there at first
   byte : getD buf (used + k) 0 ≡ getD (drop used old) k 0
   byte =
       let e : used + k ≡ k + used = omega arith in

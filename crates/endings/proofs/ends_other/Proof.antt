@@ -6,8 +6,8 @@ use Rattle.endings.proofs.ends_other.Tie as tie
 transfer-of-requires : tie.Need-transfer-of-requires
 transfer-of-requires c κs = search needs
 
-stage-of-requires : tie.Need-stage-of-requires
-stage-of-requires c κs = search needs
+is-reading-requires : tie.Need-is-reading-requires
+is-reading-requires c κs = search needs
 
 is-private-requires : tie.Need-is-private-requires
 is-private-requires c κs = search needs
@@ -23,7 +23,7 @@ ends-other-spec =
     tie.close
     (tie.spec
     transfer-of-requires
-    stage-of-requires
+    is-reading-requires
     is-private-requires
     is-broadcast-requires
     returns)

@@ -4,8 +4,8 @@ use borrow.Author.Needs.{needs}
 use Rattle.endings.proofs.is_allowed.Statement.{statement}
 use Rattle.endings.proofs.is_allowed.Tie as tie
 
-stage-of-requires : tie.Need-stage-of-requires
-stage-of-requires c κs = search needs
+is-assigning-requires : tie.Need-is-assigning-requires
+is-assigning-requires c κs = search needs
 
 ends-entdaa-requires : tie.Need-ends-entdaa-requires
 ends-entdaa-requires c κs = search needs
@@ -24,13 +24,19 @@ choose-requires-2 c κs = search needs
 
 returns : tie.Need-returns
 unfolding allowed
-returns c = rw (c .choose2 .ensures, c .before .is-unattached .ensures, c .before .before .choose .ensures, c .before .before .before .ends-other .ensures, c .before .before .before .before .ends-entdaa .ensures, c .before .before .before .before .before .stage-of .ensures)
+returns c =
+    let s1 = c .before in
+    let s2 = s1 .before in
+    let s3 = s2 .before in
+    let s4 = s3 .before in
+    let s5 = s4 .before in
+    rw (c .choose2 .ensures, s1 .is-unattached .ensures, s2 .choose .ensures, s3 .ends-other .ensures, s4 .ends-entdaa .ensures, s5 .is-assigning .ensures)
 
 pub is-allowed-spec : {M : Type 1} → statement M
 is-allowed-spec =
     tie.close
     (tie.spec
-    stage-of-requires
+    is-assigning-requires
     ends-entdaa-requires
     ends-other-requires
     choose-requires

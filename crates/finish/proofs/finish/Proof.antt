@@ -15,8 +15,10 @@ refuse-requires : tie.Need-refuse-requires
 refuse-requires c κs = search needs
 
 returns : tie.Need-returns
-returns c = λ t f. let a = c .before .before .before in
-    c .refuse .ensures t f ∙ refused-as (λ v. finish v (a .args .code)) (seen (a .args .st) t f) _ (c .before .if1 .taken) (c .before .before .finish-number .ensures t f)
+returns c = λ t f.
+    let tested = c .before .before in
+    let a = tested .before .args in
+    c .refuse .ensures t f ∙ refused-as (λ v. finish v (a .code)) (seen (a .st) t f) _ (c .before .if1 .taken) (tested .finish-number .ensures t f)
 
 transfer-of-requires : tie.Need-transfer-of-requires
 transfer-of-requires c κs = search needs
@@ -38,9 +40,15 @@ done-requires c κs = search needs
 
 returns-2 : tie.Need-returns-2
 unfolding finish
-returns-2 c = λ t f. let i = c .before .before .before .before .before .before .before in
-    let a = c .before .before .before .before .before .before .before .before .before in
-    rw (c .done .ensures t, c .before .receipt-and .ensures, c .before .before .counted .ensures, c .before .before .before .before .receipt .ensures, c .before .before .before .before .before .is-padded .ensures, c .before .before .before .before .before .before .transfer-of .ensures) (served-as (λ v. finish v (a .args .code)) (seen (a .args .st) t f) refl (sym (i .before .finish-number .ensures t f) ∙ i .if1 .left))
+returns-2 c = λ t f.
+    let counted = c .before .before in
+    let receipt = counted .before .before in
+    let opened = receipt .before .before in
+    let passed = opened .before in
+    let a = passed .before .before .args in
+    let zero = sym (passed .before .finish-number .ensures t f) ∙ passed .if1 .left in
+    rw (c .done .ensures t, c .before .receipt-and .ensures, counted .counted .ensures, receipt .receipt .ensures, receipt .before .is-padded .ensures, opened .transfer-of .ensures)
+    (served-as (λ v. finish v (a .code)) (seen (a .st) t f) refl zero)
 
 pub finish-spec : {M : Type 1} → statement M
 finish-spec =

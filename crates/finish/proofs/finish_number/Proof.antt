@@ -4,8 +4,8 @@ use borrow.Author.Needs.{needs}
 use Rattle.finish.proofs.finish_number.Statement.{statement}
 use Rattle.finish.proofs.finish_number.Tie as tie
 
-stage-of-requires : tie.Need-stage-of-requires
-stage-of-requires c κs = search needs
+is-idle-requires : tie.Need-is-idle-requires
+is-idle-requires c κs = search needs
 
 is-allowed-requires : tie.Need-is-allowed-requires
 is-allowed-requires c κs = search needs
@@ -25,13 +25,13 @@ while-open-requires c κs = search needs
 returns : tie.Need-returns
 unfolding finish
 returns c = λ t f. let a = c .before .before .before .before .before .before .before .before .before in
-    rw (c .while-open .ensures, c .before .select2 .ensures, c .before .before .select .ensures, a .is-padded .ensures, a .before .is-allowed .ensures, a .before .before .stage-of .ensures)
+    rw (c .while-open .ensures, c .before .select2 .ensures, c .before .before .select .ensures, a .is-padded .ensures, a .before .is-allowed .ensures, a .before .before .is-idle .ensures)
 
 pub finish-number-spec : {M : Type 1} → statement M
 finish-number-spec =
     tie.close
     (tie.spec
-    stage-of-requires
+    is-idle-requires
     is-allowed-requires
     is-padded-requires
     select-requires

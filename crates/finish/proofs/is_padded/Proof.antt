@@ -10,13 +10,13 @@ transfer-of-requires c κs = search needs
 words-for-requires : tie.Need-words-for-requires
 words-for-requires c κs = search needs
 
-stage-of-requires : tie.Need-stage-of-requires
-stage-of-requires c κs = search needs
+is-reading-requires : tie.Need-is-reading-requires
+is-reading-requires c κs = search needs
 
 returns : tie.Need-returns
 unfolding padded
-returns c = rw (c .before .before .stage-of .ensures, c .before .before .before .words-for .ensures, c .before .before .before .before .transfer-of .ensures)
+returns c = rw (c .before .before .is-reading .ensures, c .before .before .before .words-for .ensures, c .before .before .before .before .transfer-of .ensures)
 
 pub is-padded-spec : {M : Type 1} → statement M
 is-padded-spec =
-    tie.close (tie.spec transfer-of-requires words-for-requires stage-of-requires returns)
+    tie.close (tie.spec transfer-of-requires words-for-requires is-reading-requires returns)

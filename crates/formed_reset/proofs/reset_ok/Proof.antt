@@ -10,13 +10,13 @@ queues-clear-requires c κs = search needs
 control-clear-requires : tie.Need-control-clear-requires
 control-clear-requires c κs = search needs
 
-stage-of-requires : tie.Need-stage-of-requires
-stage-of-requires c κs = search needs
+is-idle-requires : tie.Need-is-idle-requires
+is-idle-requires c κs = search needs
 
 returns : tie.Need-returns
 unfolding resetOk
-returns c = λ k. rw (c .stage-of .ensures, c .before .control-clear .ensures, c .before .before .queues-clear .ensures k)
+returns c = λ k. rw (c .is-idle .ensures, c .before .control-clear .ensures, c .before .before .queues-clear .ensures k)
 
 pub reset-ok-spec : {M : Type 1} → statement M
 reset-ok-spec =
-    tie.close (tie.spec queues-clear-requires control-clear-requires stage-of-requires returns)
+    tie.close (tie.spec queues-clear-requires control-clear-requires is-idle-requires returns)

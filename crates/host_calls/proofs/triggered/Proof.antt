@@ -11,7 +11,7 @@ use Rattle.faults.specs.Faults.{faultNumber}
 use Rattle.answer.specs.Given.{controller, tablesOf, givenOut}
 use Rattle.answer.specs.declared.Out.{Out}
 use Rattle.model.proofs.Open.{in-burst}
-use Rattle.model.specs.Bursts.{short, trigger}
+use Rattle.model.specs.Bursts.{shortInBurst, trigger}
 use Rattle.model.specs.Decision.{Effect, unchanged, _withNumber_}
 use Rattle.model.specs.declared.Call.the-variants.{Trigger}
 use Rattle.bank.proofs.Laws.{formed-of}
@@ -41,8 +41,8 @@ returns c =
 is-bursting-requires : tie.Need-is-bursting-requires
 is-bursting-requires c κs = search needs
 
-is-lacking-requires : tie.Need-is-lacking-requires
-is-lacking-requires c κs = search needs
+is-output-short-requires : tie.Need-is-output-short-requires
+is-output-short-requires c κs = search needs
 
 bar-requires : tie.Need-bar-requires
 bar-requires c κs = search needs
@@ -66,7 +66,7 @@ returns-2 c =
     let f = fronts (queuesIn b) s in
     let t = tablesOf b o in
     let v = seen st t f in
-    let lacks = l .is-lacking .ensures ∙ short-is st (b .flags) (b .commands) (b .payloads) o f (a .output) open-burst m in
+    let lacks = l .is-output-short .ensures ∙ short-is st (b .flags) (b .commands) (b .payloads) o f (a .output) open-burst m in
     ap (λ (r : Out). givenOut r s o) (c .settled .ensures)
     ∙ ap (λ (e : Effect). givenOut (settledOut b e) s o) (c .before .bar .ensures t f ∙ ap (λ (x : Bool). unchanged v withNumber cond x 13 (cond (st .control .held) 5 6)) lacks ∙ bars-trigger v (z .0))
     ∙ unsettled b s o sound
@@ -87,7 +87,7 @@ returns-3 c =
     let f = fronts (queuesIn b) s in
     let v = seen (b .state) (tablesOf b o) f in
     ap (λ (r : Out). givenOut r s o) (c .settled2 .ensures)
-    ∙ ap (λ (e : Effect). givenOut (settledOut b e) s o) (past v short 13 trigger _ (never-short v no-burst) (c .before .trigger .ensures (b .payloads) o f m))
+    ∙ ap (λ (e : Effect). givenOut (settledOut b e) s o) (past v shortInBurst 13 trigger _ (never-short v no-burst) (c .before .trigger .ensures (b .payloads) o f m))
     ∙ unsettled b s o (ap (faultNumber b) k ∙ sym (n .fault .ensures) ∙ i .before .before .before .before .if1 .left)
 
 pub triggered-spec : {M : Type 1} → statement M
@@ -98,7 +98,7 @@ triggered-spec =
     refused-requires
     returns
     is-bursting-requires
-    is-lacking-requires
+    is-output-short-requires
     bar-requires
     settled-requires
     returns-2

@@ -1,4 +1,6 @@
--- `inplace::read_in_place` meets its contract: a walk of its MIR, by hand. The borrow is opened, the whole struct is copied out and passed to `controller::read` with the store, which the body gives up for good; the struct in the result is stored back whole, and the borrow is closed at it.
+-- `inplace::read_in_place` meets its contract: a walk of its MIR, by hand. The borrow is opened, the whole struct is copied out and passed
+-- to `controller::read` with the store, which the body gives up for good; the struct in the result is stored back whole, and the borrow is
+-- closed at it.
 -- All that the proof knows of `controller::read` is that it meets its contract.
 -- Assumes nothing.
 use mathlib.Core.Path.{_≡_, refl}
@@ -132,22 +134,26 @@ module _ {M : Type 1} (𝓤 : URA M) (H : Heap 𝓤) (A : Atoms 𝓤) (W : Given
         -- the bank's borrow is opened
         move ! (17 ∷ []) $ fsplit ! $ fsplit3 ! $ drop ! $ move ! (19 ∷ []) $ split ! $ move ! (2 ∷ 3 ∷ 0 ∷ []) $
         opened ! tt B.the-type B′.the-laws h b o (λ g.
-        -- [the struct's cell; the open borrow; obs; auth; the store's token; what the rest own; _7 (6); …; _6 (8); …; _5 (10); …; _4 (12); …; _3 (14); …; _2 (16); …; _1 (18); …; room for _0 (20); …]
+        -- [the struct's cell; the open borrow; obs; auth; the store's token; what the rest own; _7 (6); …; _6 (8); …; _5 (10); …;
+        --  _4 (12); …; _3 (14); …; _2 (16); …; _1 (18); …; room for _0 (20); …]
         among ! (18 ∷ 10 ∷ 0 ∷ []) (copies ! B.the-type B′.the-laws h refl g) $
         among ! (16 ∷ 8 ∷ 6 ∷ []) (relends ! refl refl refl (tt, tt) (tt, (tt, (record { fits = room .0 }, tt)))) $
         move ! (5 ∷ []) $ fsplit ! $ move ! (6 ∷ 0 ∷ []) $ use2 W (raw (Step 𝓤 H A at-mem run .pre to-step)) (goes-step g) $
-        -- [what `controller::read` asks; what the number owns; the cell; the open borrow; obs; auth; _7 (6); …; _6 (8); …; _5 (10); …; _4 (12); …; _3 (14); …; _2 (16); …; _1 (18); …; _0 (20); …]
+        -- [what `controller::read` asks; what the number owns; the cell; the open borrow; obs; auth; _7 (6); …; _6 (8); …; _5 (10); …;
+        --  _4 (12); …; _3 (14); …; _2 (16); …; _1 (18); …; _0 (20); …]
         calls-at ! fm (Step 𝓤 H A at-mem run) known to-step (and-then ! (load ! (from ! (stop !)) (look ! 10 refl)) (and-then ! (load ! (from ! (stop !)) (look ! 6 refl)) (and-then ! (load ! (from ! (stop !)) (look ! 14 refl)) (no-more !)))) (λ w.
         use1 W (later (some (λ (r : Out). ((‵ (flft κ′ q′) ⊛ ‵ ftrue) ⊛ ‵ (O.the-row .own r (w ∷ []))) ⊛ raw (ensured 𝓤 H A read.ended (read.clauses 𝓤 H A at-mem run) (κ′, tt) (h, (x, (i, tt))) tt r)))) (id⊢ 𝓤 _) $ await ! tt $ pick ! (λ r.
         -- what `controller::read` ensures, at some last list
         split ! $ move ! (1 ∷ []) $ use1 W (some (λ (zs : Unit {0} × (List ℕ × (Unit {0} × Unit {0}))). ‵ (lasts read.ended (κ′, tt) (h, (x, (i, tt))) zs) ⊛ raw (fact 𝓤 (Said r (zs .1 .0))))) (id⊢ 𝓤 _) $ pick ! (λ zs.
         split ! $ move ! (1 ∷ []) $ heard ! (Said r (zs .1 .0)) (λ e. fsplit ! $ drop ! $ fsplit ! $ fsplit ! $ move ! (1 ∷ []) $ feqL ! (λ l.
         move ! (2 ∷ []) $ split ! $ move ! (1 ∷ []) $ gets ! O.the-type O′.the-laws 14 r refl refl (λ is.
-        -- [the store's token; its last list; …; …; the cell (4); the open borrow; obs; auth; _7 (8); …; _6 (10); …; _5 (12); …; _4 (14); …; _3 (16); …; _2 (18); …; _1 (20); …; _0 (22); …]
+        -- [the store's token; its last list; …; …; the cell (4); the open borrow; obs; auth; _7 (8); …; _6 (10); …; _5 (12); …; _4 (14); …;
+        --  _3 (16); …; _2 (18); …; _1 (20); …; _0 (22); …]
         among ! (22 ∷ 20 ∷ 14 ∷ 4 ∷ []) (hands ! B.the-type B′.the-laws (r .bank) N.the-type N′.the-laws (r .answer) refl (LL.owed O.the-type O′.the-laws r _ is .0) (LL.owed O.the-type O′.the-laws r _ is .1 .0)) $
         -- the borrow is closed at the bank of the result
         move ! (4 ∷ 5 ∷ 6 ∷ 7 ∷ []) $ closed ! tt B.the-type B′.the-laws B′.the-plain (r .bank) b o (LL.owed O.the-type O′.the-laws r _ is .0) $
-        -- [obs; the borrow; its token; the store's token; its last list; …; …; _7 (7); …; _6 (9); …; _5 (11); …; _4 (13); …; _3 (15); …; _2 (17); …; _1 (19); …; _0 (21); …]
+        -- [obs; the borrow; its token; the store's token; its last list; …; …; _7 (7); …; _6 (9); …; _5 (11); …; _4 (13); …; _3 (15); …;
+        --  _2 (17); …; _1 (19); …; _0 (21); …]
         returns ! (look ! 21 refl) $ behind ! 7 $ freed ! (local ! (local ! (local ! (local ! (local ! (local ! (local ! (local ! (none !))))))))) $
         keep ! (0 ∷ 1 ∷ 2 ∷ 3 ∷ 4 ∷ []) $ by ! (exits r (zs .1 .0) e l (LL.owed O.the-type O′.the-laws r _ is .1 .0)))))))))))))))))
 

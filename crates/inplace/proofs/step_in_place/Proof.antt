@@ -1,4 +1,6 @@
--- `inplace::step_in_place` meets its contract: a walk of its MIR, by hand. The borrow is opened, the whole struct is copied out and passed to `controller::step` with the store and the output, which the body gives up for good; the struct in the result is stored back whole, and the borrow is closed at it.
+-- `inplace::step_in_place` meets its contract: a walk of its MIR, by hand. The borrow is opened, the whole struct is copied out and passed
+-- to `controller::step` with the store and the output, which the body gives up for good; the struct in the result is stored back whole, and
+-- the borrow is closed at it.
 -- All that the proof knows of `controller::step` is that it meets its contract.
 -- Assumes nothing.
 use mathlib.Core.Path.{_≡_, refl}
@@ -148,13 +150,16 @@ module _ {M : Type 1} (𝓤 : URA M) (H : Heap 𝓤) (A : Atoms 𝓤) (W : Given
         -- the bank's borrow is opened
         move ! (23 ∷ []) $ fsplit ! $ fsplit3 ! $ drop ! $ move ! (25 ∷ []) $ split ! $ move ! (2 ∷ 3 ∷ 0 ∷ []) $
         opened ! tt B.the-type B′.the-laws h b o (λ g.
-        -- [the struct's cell; the open borrow; obs; auth; the other tokens; what the rest own; _10 (6); …; _9 (8); …; _8 (10); …; _7 (12); …; _6 (14); …; _5 (16); …; _4 (18); …; _3 (20); …; _2 (22); …; _1 (24); …; room for _0 (26); …]
+        -- [the struct's cell; the open borrow; obs; auth; the other tokens; what the rest own; _10 (6); …; _9 (8); …; _8 (10); …;
+        --  _7 (12); …; _6 (14); …; _5 (16); …; _4 (18); …; _3 (20); …; _2 (22); …; _1 (24); …; room for _0 (26); …]
         among ! (24 ∷ 14 ∷ 0 ∷ []) (copies ! B.the-type B′.the-laws h refl g) $
         among ! (22 ∷ 12 ∷ 10 ∷ []) (relends ! refl refl refl (tt, tt) (tt, (tt, (record { fits = room .0 }, tt)))) $
         among ! (20 ∷ 8 ∷ 6 ∷ []) (relends ! refl refl refl (tt, tt) (tt, (tt, (record { fits = room″ .0 }, tt)))) $
-        -- [what the store's `&mut` owns; what the rest own; the cell; the open borrow; obs; auth; the tokens (6); _10; …], and then the output's `&mut` first
+        -- [what the store's `&mut` owns; what the rest own; the cell; the open borrow; obs; auth; the tokens (6);
+        --  _10; …], and then the output's `&mut` first
         move ! (5 ∷ []) $ fsplit ! $ move ! (1 ∷ []) $ fsplit ! $ move ! (7 ∷ 2 ∷ 0 ∷ []) $ use3 W (raw (Step 𝓤 H A at-mem run .pre to-step)) (goes-step g) $
-        -- [what `controller::step` asks; what the call owns; the cell; the open borrow; obs; auth; _10 (6); …; _9 (8); …; _8 (10); …; _7 (12); …; _6 (14); …; _5 (16); …; _4 (18); …; _3 (20); …; _2 (22); …; _1 (24); …; _0 (26); …]
+        -- [what `controller::step` asks; what the call owns; the cell; the open borrow; obs; auth; _10 (6); …; _9 (8); …; _8 (10); …;
+        --  _7 (12); …; _6 (14); …; _5 (16); …; _4 (18); …; _3 (20); …; _2 (22); …; _1 (24); …; _0 (26); …]
         calls-at ! fm (Step 𝓤 H A at-mem run) known to-step (and-then ! (load ! (from ! (stop !)) (look ! 14 refl)) (and-then ! (load ! (from ! (stop !)) (look ! 10 refl)) (and-then ! (load ! (from ! (stop !)) (look ! 6 refl)) (and-then ! (load ! (from ! (stop !)) (look ! 18 refl)) (no-more !))))) (λ w.
         use1 W (later (some (λ (r : Out). (Tokens ⊛ ‵ (O.the-row .own r (w ∷ []))) ⊛ raw (ensured 𝓤 H A step.ended (step.clauses 𝓤 H A at-mem run) (κ′, (κ″, tt)) (h, (x, (y, (k, tt)))) tt r)))) (id⊢ 𝓤 _) $ await ! tt $ pick ! (λ r.
         -- what `controller::step` ensures, at some last lists
@@ -162,11 +167,13 @@ module _ {M : Type 1} (𝓤 : URA M) (H : Heap 𝓤) (A : Atoms 𝓤) (W : Given
         split ! $ move ! (1 ∷ []) $ heard ! (Said r (zs .1 .0) (zs .1 .1 .0)) (λ e. fsplit ! $ drop ! $ fsplit ! $ fsplit ! $ move ! (1 ∷ []) $ feqL ! (λ l. move ! (1 ∷ []) $ fsplit ! $ fsplit ! $ move ! (1 ∷ []) $ feqL ! (λ l″.
         -- [the output's last list; …; the store's last list; what comes back (3); …]
         move ! (3 ∷ []) $ split ! $ move ! (1 ∷ []) $ gets ! O.the-type O′.the-laws 19 r refl refl (λ is.
-        -- [the tokens; the output's last list; …; the store's last list (3); …; the cell (5); the open borrow; obs; auth; _10 (9); …; _9 (11); …; _8 (13); …; _7 (15); …; _6 (17); …; _5 (19); …; _4 (21); …; _3 (23); …; _2 (25); …; _1 (27); …; _0 (29); …]
+        -- [the tokens; the output's last list; …; the store's last list (3); …; the cell (5); the open borrow; obs; auth; _10 (9); …;
+        --  _9 (11); …; _8 (13); …; _7 (15); …; _6 (17); …; _5 (19); …; _4 (21); …; _3 (23); …; _2 (25); …; _1 (27); …; _0 (29); …]
         among ! (29 ∷ 27 ∷ 19 ∷ 5 ∷ []) (hands ! B.the-type B′.the-laws (r .bank) N.the-type N′.the-laws (r .answer) refl (LL.owed O.the-type O′.the-laws r _ is .0) (LL.owed O.the-type O′.the-laws r _ is .1 .0)) $
         -- the borrow is closed at the bank of the result
         move ! (5 ∷ 6 ∷ 7 ∷ 8 ∷ []) $ closed ! tt B.the-type B′.the-laws B′.the-plain (r .bank) b o (LL.owed O.the-type O′.the-laws r _ is .0) $
-        -- [obs; the borrow; its token; the other tokens; the output's last list; …; the store's last list (6); …; _10 (8); …; _9 (10); …; _8 (12); …; _7 (14); …; _6 (16); …; _5 (18); …; _4 (20); …; _3 (22); …; _2 (24); …; _1 (26); …; _0 (28); …]
+        -- [obs; the borrow; its token; the other tokens; the output's last list; …; the store's last list (6); …; _10 (8); …; _9 (10); …;
+        --  _8 (12); …; _7 (14); …; _6 (16); …; _5 (18); …; _4 (20); …; _3 (22); …; _2 (24); …; _1 (26); …; _0 (28); …]
         returns ! (look ! 28 refl) $ behind ! 8 $ freed ! (local ! (local ! (local ! (local ! (local ! (local ! (local ! (local ! (local ! (local ! (local ! (none !)))))))))))) $
         keep ! (0 ∷ 1 ∷ 2 ∷ 3 ∷ 4 ∷ 6 ∷ []) $ by ! (exits r (zs .1 .0) (zs .1 .1 .0) e l l″ (LL.owed O.the-type O′.the-laws r _ is .1 .0)))))))))))))))))))))
 

@@ -1,4 +1,6 @@
--- `inplace::write_in_place` meets its contract: a walk of its MIR, by hand. The borrow is opened, the whole struct is copied out and passed to `controller::write` with the store, which the body gives up for good; the struct in the result is stored back whole, and the borrow is closed at it.
+-- `inplace::write_in_place` meets its contract: a walk of its MIR, by hand. The borrow is opened, the whole struct is copied out and passed
+-- to `controller::write` with the store, which the body gives up for good; the struct in the result is stored back whole, and the borrow is
+-- closed at it.
 -- All that the proof knows of `controller::write` is that it meets its contract.
 -- Assumes nothing.
 use mathlib.Core.Path.{_≡_, refl}
@@ -132,22 +134,26 @@ module _ {M : Type 1} (𝓤 : URA M) (H : Heap 𝓤) (A : Atoms 𝓤) (W : Given
         -- the bank's borrow is opened
         move ! (19 ∷ []) $ fsplit ! $ fsplit3 ! $ drop ! $ move ! (21 ∷ []) $ split ! $ move ! (2 ∷ 3 ∷ 0 ∷ []) $
         opened ! tt B.the-type B′.the-laws h b o (λ g.
-        -- [the struct's cell; the open borrow; obs; auth; the store's token; what the rest own; _8 (6); …; _7 (8); …; _6 (10); …; _5 (12); …; _4 (14); …; _3 (16); …; _2 (18); …; _1 (20); …; room for _0 (22); …]
+        -- [the struct's cell; the open borrow; obs; auth; the store's token; what the rest own; _8 (6); …; _7 (8); …; _6 (10); …;
+        --  _5 (12); …; _4 (14); …; _3 (16); …; _2 (18); …; _1 (20); …; room for _0 (22); …]
         among ! (20 ∷ 10 ∷ 0 ∷ []) (copies ! B.the-type B′.the-laws h refl g) $
         among ! (18 ∷ 8 ∷ 6 ∷ []) (relends ! refl refl refl (tt, tt) (tt, (tt, (record { fits = room .0 }, tt)))) $
         move ! (5 ∷ []) $ fsplit ! $ move ! (6 ∷ 0 ∷ []) $ use2 W (raw (Step 𝓤 H A at-mem run .pre to-step)) (goes-step g) $
-        -- [what `controller::write` asks; what the numbers own; the cell; the open borrow; obs; auth; _8 (6); …; _7 (8); …; _6 (10); …; _5 (12); …; _4 (14); …; _3 (16); …; _2 (18); …; _1 (20); …; _0 (22); …]
+        -- [what `controller::write` asks; what the numbers own; the cell; the open borrow; obs; auth; _8 (6); …; _7 (8); …; _6 (10); …;
+        --  _5 (12); …; _4 (14); …; _3 (16); …; _2 (18); …; _1 (20); …; _0 (22); …]
         calls-at ! fm (Step 𝓤 H A at-mem run) known to-step (and-then ! (load ! (from ! (stop !)) (look ! 10 refl)) (and-then ! (load ! (from ! (stop !)) (look ! 6 refl)) (and-then ! (load ! (from ! (stop !)) (look ! 16 refl)) (and-then ! (load ! (from ! (stop !)) (look ! 14 refl)) (no-more !))))) (λ w.
         use1 W (later (some (λ (r : Out). ((‵ (flft κ′ q′) ⊛ ‵ ftrue) ⊛ ‵ (O.the-row .own r (w ∷ []))) ⊛ raw (ensured 𝓤 H A write.ended (write.clauses 𝓤 H A at-mem run) (κ′, tt) (h, (x, (i, (v, tt)))) tt r)))) (id⊢ 𝓤 _) $ await ! tt $ pick ! (λ r.
         -- what `controller::write` ensures, at some last list
         split ! $ move ! (1 ∷ []) $ use1 W (some (λ (zs : Unit {0} × (List ℕ × (Unit {0} × (Unit {0} × Unit {0})))). ‵ (lasts write.ended (κ′, tt) (h, (x, (i, (v, tt)))) zs) ⊛ raw (fact 𝓤 (Said r (zs .1 .0))))) (id⊢ 𝓤 _) $ pick ! (λ zs.
         split ! $ move ! (1 ∷ []) $ heard ! (Said r (zs .1 .0)) (λ e. fsplit ! $ drop ! $ fsplit ! $ fsplit ! $ move ! (1 ∷ []) $ feqL ! (λ l.
         move ! (2 ∷ []) $ split ! $ move ! (1 ∷ []) $ gets ! O.the-type O′.the-laws 14 r refl refl (λ is.
-        -- [the store's token; its last list; …; …; the cell (4); the open borrow; obs; auth; _8 (8); …; _7 (10); …; _6 (12); …; _5 (14); …; _4 (16); …; _3 (18); …; _2 (20); …; _1 (22); …; _0 (24); …]
+        -- [the store's token; its last list; …; …; the cell (4); the open borrow; obs; auth; _8 (8); …; _7 (10); …; _6 (12); …; _5 (14); …;
+        --  _4 (16); …; _3 (18); …; _2 (20); …; _1 (22); …; _0 (24); …]
         among ! (24 ∷ 22 ∷ 14 ∷ 4 ∷ []) (hands ! B.the-type B′.the-laws (r .bank) N.the-type N′.the-laws (r .answer) refl (LL.owed O.the-type O′.the-laws r _ is .0) (LL.owed O.the-type O′.the-laws r _ is .1 .0)) $
         -- the borrow is closed at the bank of the result
         move ! (4 ∷ 5 ∷ 6 ∷ 7 ∷ []) $ closed ! tt B.the-type B′.the-laws B′.the-plain (r .bank) b o (LL.owed O.the-type O′.the-laws r _ is .0) $
-        -- [obs; the borrow; its token; the store's token; its last list; …; …; _8 (7); …; _7 (9); …; _6 (11); …; _5 (13); …; _4 (15); …; _3 (17); …; _2 (19); …; _1 (21); …; _0 (23); …]
+        -- [obs; the borrow; its token; the store's token; its last list; …; …; _8 (7); …; _7 (9); …; _6 (11); …; _5 (13); …; _4 (15); …;
+        --  _3 (17); …; _2 (19); …; _1 (21); …; _0 (23); …]
         returns ! (look ! 23 refl) $ behind ! 7 $ freed ! (local ! (local ! (local ! (local ! (local ! (local ! (local ! (local ! (local ! (none !)))))))))) $
         keep ! (0 ∷ 1 ∷ 2 ∷ 3 ∷ 4 ∷ []) $ by ! (exits r (zs .1 .0) e l (LL.owed O.the-type O′.the-laws r _ is .1 .0))))))))))))))))))
 

@@ -1,4 +1,4 @@
--- `lines::parse` meets its contract.
+-- `lines::parse` meets its contract: byte by byte it holds what the automaton reads, and that is what the line names.
 use Rattle.lines.specs.declared.Reading.{Reading}
 use lib.ListN.{getD}
 use mathlib.Core.Path.{refl}
@@ -6,10 +6,11 @@ use borrow.Author.Needs.{needs}
 use native.Mathlib.Omega.{arith}
 use lib.Seq.{take-all}
 use Rattle.lines.proofs.Bytes.{reading-next}
+use Rattle.lines.proofs.Grammar.{reads-the-grammar}
 use Prim.Native.Nat.{_-_, _<_, _≤_}
 use mathlib.Core.Path.{_≡_, ap, _∙_}
 use lib.ListN.{length, take}
-use Rattle.lines.specs.Lines.{readingOf, eatOf, callOf}
+use Rattle.lines.specs.Automaton.{readingOf, eatOf, callRead}
 use Rattle.lines.proofs.parse.Statement.{statement}
 use Rattle.lines.proofs.parse.Tie as tie
 
@@ -44,7 +45,7 @@ named-requires : tie.Need-named-requires Inv-loop μ-loop
 named-requires c κs = search needs
 
 returns : tie.Need-returns Inv-loop μ-loop
-returns c = let l = c .before .before .loop in let line = c .before .before .before .before .before .args .line .now in c .named .ensures ∙ ap callOf (l .inv .3 ∙ ap readingOf (take-all (l .i) line (c .before .loop-test .left)))
+returns c = let l = c .before .before .loop in let line = c .before .before .before .before .before .args .line .now in c .named .ensures ∙ ap callRead (l .inv .3 ∙ ap readingOf (take-all (l .i) line (c .before .loop-test .left))) ∙ reads-the-grammar line
 
 pub parse-spec : {M : Type 1} → statement M
 parse-spec =

@@ -5,7 +5,7 @@ use Rattle.trigger.proofs.Within.{inside, short-is}
 use Rattle.effect.proofs.Laws.{past, called}
 use Rattle.effect.specs.Seen.{seen}
 use Rattle.model.proofs.Open.{in-burst}
-use Rattle.model.specs.Bursts.{misfit, short, within, burstSend, burstReceive, burstFinish}
+use Rattle.model.specs.Bursts.{misfit, shortInBurst, burstOr, burstSend, burstReceive, burstFinish}
 use Rattle.model.specs.Laws.{isAccess}
 use Rattle.model.specs.Calls.{send, receive, finish, interrupt}
 use Rattle.model.specs.Decision.{unchanged, _withNumber_, _⇒_∣_}
@@ -16,8 +16,8 @@ use borrow.Author.Needs.{needs}
 use Rattle.offload.proofs.event.Statement.{statement}
 use Rattle.offload.proofs.event.Tie as tie
 
-is-lacking-requires : tie.Need-is-lacking-requires
-is-lacking-requires c κs = search needs
+is-output-short-requires : tie.Need-is-output-short-requires
+is-output-short-requires c κs = search needs
 
 enum-told : tie.Need-enum-told
 enum-told c = search needs
@@ -116,7 +116,7 @@ returns-3 c =
     λ o f n i m.
     let t = tables (a .args .flags .now) ws (a .args .payloads .now) o in
     let s = seen st t f in
-    let lacks = l .is-lacking .ensures ∙ short-is st (a .args .flags .now) ws (a .args .payloads .now) o f (a .args .len) (a .pre .0) n in
+    let lacks = l .is-output-short .ensures ∙ short-is st (a .args .flags .now) ws (a .args .payloads .now) o f (a .args .len) (a .pre .0) n in
     called s _ _ _ (is .1) (c .bar .ensures t f ∙ ap (λ (b : Bool). unchanged s withNumber cond b 13 (cond (st .control .held) 5 6)) lacks ∙ bars-start s (z .0))
 
 returns-4 : tie.Need-returns-4
@@ -156,7 +156,7 @@ returns-6 c =
     λ o f n i m.
     let t = tables (a .args .flags .now) ws (a .args .payloads .now) o in
     let s = seen st t f in
-    called s _ _ _ (is .1) (past s (λ v. misfit (Finish (is .0 .0))) 18 (λ v. within v (burstFinish v (is .0 .0)) (finish v (is .0 .0))) _ (sym (ap misfit (is .1)) ∙ m) (inside s (λ v. burstFinish v (is .0 .0)) (λ v. finish v (is .0 .0)) _ (a .pre .0) (c .finish .ensures (a .args .payloads .now) o f n)))
+    called s _ _ _ (is .1) (past s (λ v. misfit (Finish (is .0 .0))) 18 (λ v. burstOr v (burstFinish v (is .0 .0)) (finish v (is .0 .0))) _ (sym (ap misfit (is .1)) ∙ m) (inside s (λ v. burstFinish v (is .0 .0)) (λ v. finish v (is .0 .0)) _ (a .pre .0) (c .finish .ensures (a .args .payloads .now) o f n)))
 
 returns-7 : tie.Need-returns-7
 returns-7 c =
@@ -169,8 +169,8 @@ returns-7 c =
     λ o f n i m.
     let t = tables (a .args .flags .now) ws (a .args .payloads .now) o in
     let s = seen st t f in
-    let lacks = l .is-lacking .ensures ∙ short-is st (a .args .flags .now) ws (a .args .payloads .now) o f (a .args .len) (a .pre .0) n in
-    called s _ _ _ (is .1) (past s (λ v. misfit (Interrupt (is .0 .0) (is .0 .1 .0))) 18 (λ v. short v ⇒ 13 ∣ interrupt v (is .0 .0) (is .0 .1 .0)) _ (sym (ap misfit (is .1)) ∙ m) (c .bar2 .ensures t f ∙ ap (λ (b : Bool). unchanged s withNumber cond b 13 (cond (st .control .held) 5 6)) lacks ∙ bars-interrupt s (z .0) (is .0 .0) (is .0 .1 .0)))
+    let lacks = l .is-output-short .ensures ∙ short-is st (a .args .flags .now) ws (a .args .payloads .now) o f (a .args .len) (a .pre .0) n in
+    called s _ _ _ (is .1) (past s (λ v. misfit (Interrupt (is .0 .0) (is .0 .1 .0))) 18 (λ v. shortInBurst v ⇒ 13 ∣ interrupt v (is .0 .0) (is .0 .1 .0)) _ (sym (ap misfit (is .1)) ∙ m) (c .bar2 .ensures t f ∙ ap (λ (b : Bool). unchanged s withNumber cond b 13 (cond (st .control .held) 5 6)) lacks ∙ bars-interrupt s (z .0) (is .0 .0) (is .0 .1 .0)))
 
 returns-8 : tie.Need-returns-8
 returns-8 c =
@@ -183,7 +183,7 @@ returns-8 c =
     λ o f n i m.
     let t = tables (a .args .flags .now) ws (a .args .payloads .now) o in
     let s = seen st t f in
-    let lacks = l .is-lacking .ensures ∙ short-is st (a .args .flags .now) ws (a .args .payloads .now) o f (a .args .len) (a .pre .0) n in
+    let lacks = l .is-output-short .ensures ∙ short-is st (a .args .flags .now) ws (a .args .payloads .now) o f (a .args .len) (a .pre .0) n in
     called s _ _ _ (is .1) (c .bar3 .ensures t f ∙ ap (λ (b : Bool). unchanged s withNumber cond b 13 (cond (st .control .held) 5 10)) lacks ∙ bars-request s (z .0) (z .1) _ _)
 
 returns-9 : tie.Need-returns-9
@@ -197,7 +197,7 @@ returns-9 c =
     λ o f n i m.
     let t = tables (a .args .flags .now) ws (a .args .payloads .now) o in
     let s = seen st t f in
-    let lacks = l .is-lacking .ensures ∙ short-is st (a .args .flags .now) ws (a .args .payloads .now) o f (a .args .len) (a .pre .0) n in
+    let lacks = l .is-output-short .ensures ∙ short-is st (a .args .flags .now) ws (a .args .payloads .now) o f (a .args .len) (a .pre .0) n in
     called s _ _ _ (is .1) (c .bar4 .ensures t f ∙ ap (λ (b : Bool). unchanged s withNumber cond b 13 (cond (st .control .held) 5 10)) lacks ∙ bars-take s (z .0) (z .1))
 
 returns-10 : tie.Need-returns-10
@@ -211,14 +211,14 @@ returns-10 c =
     λ o f n i m.
     let t = tables (a .args .flags .now) ws (a .args .payloads .now) o in
     let s = seen st t f in
-    let lacks = l .is-lacking .ensures ∙ short-is st (a .args .flags .now) ws (a .args .payloads .now) o f (a .args .len) (a .pre .0) n in
+    let lacks = l .is-output-short .ensures ∙ short-is st (a .args .flags .now) ws (a .args .payloads .now) o f (a .args .len) (a .pre .0) n in
     called s _ _ _ (is .1) (c .bar5 .ensures t f ∙ ap (λ (b : Bool). unchanged s withNumber cond b 13 (cond (st .control .held) 5 6)) lacks ∙ bars-trigger s (z .0))
 
 pub event-spec : {M : Type 1} → statement M
 event-spec =
     tie.close
     (tie.spec
-    is-lacking-requires
+    is-output-short-requires
     enum-told
     refuse-requires
     enum-told-2

@@ -7,7 +7,7 @@ use Rattle.effect.specs.Effects.{verdict}
 use Rattle.answer.proofs.Laws.{ready-of}
 use Rattle.answer.specs.Given.{view}
 use Rattle.model.proofs.Open.{direct-of}
-use Rattle.model.specs.Bursts.{misfit, short, within, trigger, burstSend, burstReceive, burstFinish}
+use Rattle.model.specs.Bursts.{misfit, shortInBurst, burstOr, trigger, burstSend, burstReceive, burstFinish}
 use Rattle.model.specs.Calls.{start, send, receive, finish, interrupt, request, takeAddress}
 use Rattle.model.specs.Registers.{row, write}
 use Rattle.model.specs.Decision.{_⇒_∣_}
@@ -140,7 +140,7 @@ returns-3 c =
     λ o n.
     let t = tables (a .flags .now) (a .commands .now) (a .payloads .now) o in
     let v = view (a .st) (a .h) t s in
-    called v _ _ _ (is .1) (past v short 13 start _ (never-short v none) (c .start .ensures (a .commands .now) (a .payloads .now) o f (c .before .before .cmd-word .ensures) (c .before .cmd-word2 .ensures)))
+    called v _ _ _ (is .1) (past v shortInBurst 13 start _ (never-short v none) (c .start .ensures (a .commands .now) (a .payloads .now) o f (c .before .before .cmd-word .ensures) (c .before .cmd-word2 .ensures)))
 
 returns-4 : tie.Need-returns-4
 returns-4 c =
@@ -179,7 +179,7 @@ returns-6 c =
     λ o n.
     let t = tables (a .flags .now) (a .commands .now) (a .payloads .now) o in
     let v = view (a .st) (a .h) t s in
-    called v _ _ _ (is .1) (let k = is .0 .0 in past v (λ x. misfit (Finish k)) 18 (λ x. within x (burstFinish x k) (finish x k)) _ (sym (ap misfit (is .1)) ∙ b .pre .1) (outside v (λ x. burstFinish x k) (λ x. finish x k) _ none (c .finish .ensures t f)))
+    called v _ _ _ (is .1) (let k = is .0 .0 in past v (λ x. misfit (Finish k)) 18 (λ x. burstOr x (burstFinish x k) (finish x k)) _ (sym (ap misfit (is .1)) ∙ b .pre .1) (outside v (λ x. burstFinish x k) (λ x. finish x k) _ none (c .finish .ensures t f)))
 
 returns-7 : tie.Need-returns-7
 returns-7 c =
@@ -192,7 +192,7 @@ returns-7 c =
     λ o n.
     let t = tables (a .flags .now) (a .commands .now) (a .payloads .now) o in
     let v = view (a .st) (a .h) t s in
-    called v _ _ _ (is .1) (let d = is .0 .0 in let k = is .0 .1 .0 in past v (λ x. misfit (Interrupt d k)) 18 (λ x. short x ⇒ 13 ∣ interrupt x d k) _ (sym (ap misfit (is .1)) ∙ b .pre .1) (past v short 13 (λ x. interrupt x d k) _ (never-short v none) (c .interrupt .ensures (a .commands .now) (a .payloads .now) o f)))
+    called v _ _ _ (is .1) (let d = is .0 .0 in let k = is .0 .1 .0 in past v (λ x. misfit (Interrupt d k)) 18 (λ x. shortInBurst x ⇒ 13 ∣ interrupt x d k) _ (sym (ap misfit (is .1)) ∙ b .pre .1) (past v shortInBurst 13 (λ x. interrupt x d k) _ (never-short v none) (c .interrupt .ensures (a .commands .now) (a .payloads .now) o f)))
 
 returns-8 : tie.Need-returns-8
 returns-8 c =
@@ -205,7 +205,7 @@ returns-8 c =
     λ o n.
     let t = tables (a .flags .now) (a .commands .now) (a .payloads .now) o in
     let v = view (a .st) (a .h) t s in
-    called v _ _ _ (is .1) (past v short 13 (λ x. request x (is .0 .0) (is .0 .1 .0)) _ (never-short v none) (c .request .ensures t f))
+    called v _ _ _ (is .1) (past v shortInBurst 13 (λ x. request x (is .0 .0) (is .0 .1 .0)) _ (never-short v none) (c .request .ensures t f))
 
 returns-9 : tie.Need-returns-9
 returns-9 c =
@@ -218,7 +218,7 @@ returns-9 c =
     λ o n.
     let t = tables (a .flags .now) (a .commands .now) (a .payloads .now) o in
     let v = view (a .st) (a .h) t s in
-    called v _ _ _ (is .1) (past v short 13 takeAddress _ (never-short v none) (c .take-address .ensures t f (c .before .sdo-first2 .ensures)))
+    called v _ _ _ (is .1) (past v shortInBurst 13 takeAddress _ (never-short v none) (c .take-address .ensures t f (c .before .sdo-first2 .ensures)))
 
 returns-10 : tie.Need-returns-10
 returns-10 c =
@@ -231,7 +231,7 @@ returns-10 c =
     λ o n.
     let t = tables (a .flags .now) (a .commands .now) (a .payloads .now) o in
     let v = view (a .st) (a .h) t s in
-    called v _ _ _ (is .1) (past v short 13 trigger _ (never-short v none) (c .trigger .ensures (a .payloads .now) o f n))
+    called v _ _ _ (is .1) (past v shortInBurst 13 trigger _ (never-short v none) (c .trigger .ensures (a .payloads .now) o f n))
 
 pub call-spec : {M : Type 1} → statement M
 call-spec =

@@ -2,8 +2,8 @@
 use mathlib.Core.Path.{refl, sym, _∙_}
 use Rattle.model.specs.Calls.{send}
 use Rattle.effect.specs.Seen.{seen}
-use Rattle.effect.proofs.Laws.{refused-as, served-as, noTables, noFronts}
-use Rattle.payload.proofs.Bytes.{sends}
+use Rattle.effect.proofs.Laws.{refused-as, served-as}
+use Rattle.payload.proofs.Bytes.{sent-below}
 use borrow.Author.Needs.{needs}
 use Rattle.payload.proofs.send.Statement.{statement}
 use Rattle.payload.proofs.send.Tie as tie
@@ -15,7 +15,9 @@ refuse-requires : tie.Need-refuse-requires
 refuse-requires c κs = search needs
 
 returns : tie.Need-returns
-returns c = λ t f w. c .refuse .ensures t f ∙ refused-as send (seen (c .before .before .before .args .st) t f) _ (c .before .if1 .taken) (c .before .before .send-number .ensures t f)
+returns c = λ t f w.
+    let tested = c .before .before in
+    c .refuse .ensures t f ∙ refused-as send (seen (tested .before .args .st) t f) _ (c .before .if1 .taken) (tested .send-number .ensures t f)
 
 transfer-of-requires : tie.Need-transfer-of-requires
 transfer-of-requires c κs = search needs
@@ -27,8 +29,7 @@ mul-advance : tie.Need-mul-advance
 mul-advance c = search needs
 
 advance-requires : tie.Need-advance-requires
-advance-requires c κs = let a = c .before .before .before in
-    rw (c .before .before .transfer-of .ensures) (sends (seen (a .before .before .args .st) noTables noFronts) (sym (a .before .send-number .ensures noTables noFronts) ∙ a .if1 .left) .below)
+advance-requires c κs = search (sent-below, needs)
 
 on-sdo-requires : tie.Need-on-sdo-requires
 on-sdo-requires c κs = search needs
@@ -38,8 +39,13 @@ done-requires c κs = search needs
 
 returns-2 : tie.Need-returns-2
 unfolding send
-returns-2 c = λ t f w. let a = c .before .before .before .before .before .before .before .before in
-    rw (c .done .ensures t, c .before .on-sdo .ensures, c .before .before .before .before .advance .ensures, c .before .before .before .before .before .select .ensures, w, c .before .before .before .before .before .before .before .transfer-of .ensures) (served-as send (seen (a .before .before .args .st) t f) refl (sym (a .before .send-number .ensures t f) ∙ a .if1 .left))
+returns-2 c = λ t f w.
+    let advance = c .before .before .before .before in
+    let opened = advance .before .before .before in
+    let passed = opened .before in
+    let zero = sym (passed .before .send-number .ensures t f) ∙ passed .if1 .left in
+    rw (c .done .ensures t, c .before .on-sdo .ensures, advance .advance .ensures, advance .before .select .ensures, w, opened .transfer-of .ensures)
+    (served-as send (seen (passed .before .before .args .st) t f) refl zero)
 
 pub send-spec : {M : Type 1} → statement M
 send-spec =

@@ -6,8 +6,8 @@ use Rattle.payload_bytes.proofs.byte_number.Tie as tie
 transfer-of-requires : tie.Need-transfer-of-requires
 transfer-of-requires c κs = search needs
 
-stage-of-requires : tie.Need-stage-of-requires
-stage-of-requires c κs = search needs
+is-idle-requires : tie.Need-is-idle-requires
+is-idle-requires c κs = search needs
 
 is-unattached-requires : tie.Need-is-unattached-requires
 is-unattached-requires c κs = search needs
@@ -25,14 +25,14 @@ while-open-requires : tie.Need-while-open-requires
 while-open-requires c κs = search needs
 
 returns : tie.Need-returns
-returns c = rw (c .while-open .ensures, c .before .select3 .ensures, c .before .before .select2 .ensures, c .before .before .before .select .ensures, c .before .before .before .before .before .is-unattached .ensures, c .before .before .before .before .before .before .stage-of .ensures, c .before .before .before .before .before .before .before .transfer-of .ensures)
+returns c = rw (c .while-open .ensures, c .before .select3 .ensures, c .before .before .select2 .ensures, c .before .before .before .select .ensures, c .before .before .before .before .before .is-unattached .ensures, c .before .before .before .before .before .before .is-idle .ensures, c .before .before .before .before .before .before .before .transfer-of .ensures)
 
 pub byte-number-spec : {M : Type 1} → statement M
 byte-number-spec =
     tie.close
     (tie.spec
     transfer-of-requires
-    stage-of-requires
+    is-idle-requires
     is-unattached-requires
     select-requires
     select-requires-2

@@ -1,4 +1,6 @@
--- `playback::replay_in_place` meets its contract: a walk of its MIR, by hand. The borrow is opened, the whole struct is copied out and passed to `playback::replay` with the store, which the body gives up for good, a copy of the file's `&` and the two numbers; the struct in the result is stored back whole, and the borrow is closed at it.
+-- `playback::replay_in_place` meets its contract: a walk of its MIR, by hand. The borrow is opened, the whole struct is copied out and
+-- passed to `playback::replay` with the store, which the body gives up for good, a copy of the file's `&` and the two numbers; the struct
+-- in the result is stored back whole, and the borrow is closed at it.
 -- All that the proof knows of `playback::replay` is that it meets its contract.
 -- Assumes nothing.
 use mathlib.Core.Path.{_≡_, refl}
@@ -140,25 +142,30 @@ module _ {M : Type 1} (𝓤 : URA M) (H : Heap 𝓤) (A : Atoms 𝓤) (W : Given
         -- the bank's borrow is opened
         move ! (21 ∷ []) $ fsplit ! $ fsplit3 ! $ drop ! $ move ! (23 ∷ []) $ split ! $ move ! (2 ∷ 3 ∷ 0 ∷ []) $
         opened ! tt B.the-type B′.the-laws h b o (λ g.
-        -- [the struct's cell; the open borrow; obs; auth; the other tokens; what the rest own; _9 (6); …; _8 (8); …; _7 (10); …; _6 (12); …; _5 (14); …; _4 (16); …; _3 (18); …; _2 (20); …; _1 (22); …; room for _0 (24); …]
+        -- [the struct's cell; the open borrow; obs; auth; the other tokens; what the rest own; _9 (6); …; _8 (8); …; _7 (10); …;
+        --  _6 (12); …; _5 (14); …; _4 (16); …; _3 (18); …; _2 (20); …; _1 (22); …; room for _0 (24); …]
         among ! (22 ∷ 10 ∷ 0 ∷ []) (copies ! B.the-type B′.the-laws h refl g) $
         among ! (20 ∷ 8 ∷ 6 ∷ []) (relends ! refl refl refl (tt, tt) (tt, (tt, (record { fits = room .0 }, tt)))) $
         -- the file's `&` is had twice: one goes to the callee, and one is kept for the exit
         move ! (5 ∷ []) $ fsplit ! $ move ! (1 ∷ []) $ fsplit ! $ use1 W (‵ Own ⊛ ‵ Own) (shr-slice-copy 𝓤 H A W (named 2) κ″ u8 .twice y (s″ ∷ [])) $ split ! $
-        -- [the file's `&`; the same; what the numbers own; what the store's `&mut` owns; the cell; the open borrow; obs; auth; the tokens (8); _9; …]
+        -- [the file's `&`; the same; what the numbers own; what the store's `&mut` owns; the cell; the open borrow; obs; auth;
+        --  the tokens (8); _9; …]
         move ! (8 ∷ 3 ∷ 0 ∷ []) $ use3 W (raw (Step 𝓤 H A at-mem run .pre to-step)) (goes-step g) $
-        -- [what `playback::replay` asks; the file's `&`; what the numbers own; the cell (3); the open borrow; obs; auth; _9 (7); …; _8 (9); …; _7 (11); …; _6 (13); …; _5 (15); …; _4 (17); …; _3 (19); …; _2 (21); …; _1 (23); …; _0 (25); …]
+        -- [what `playback::replay` asks; the file's `&`; what the numbers own; the cell (3); the open borrow; obs; auth; _9 (7); …;
+        --  _8 (9); …; _7 (11); …; _6 (13); …; _5 (15); …; _4 (17); …; _3 (19); …; _2 (21); …; _1 (23); …; _0 (25); …]
         calls-at ! fm (Step 𝓤 H A at-mem run) known to-step (and-then ! (load ! (from ! (stop !)) (look ! 11 refl)) (and-then ! (load ! (from ! (stop !)) (look ! 7 refl)) (and-then ! (load ! (from ! (stop !)) (look ! 19 refl)) (and-then ! (load ! (from ! (stop !)) (look ! 17 refl)) (and-then ! (load ! (from ! (stop !)) (look ! 15 refl)) (no-more !)))))) (λ w.
         use1 W (later (some (λ (r : Replayed). ((‵ (flft κ′ q′) ⊛ (‵ (flft κ″ q″) ⊛ ‵ ftrue)) ⊛ ‵ (O.the-row .own r (w ∷ []))) ⊛ raw (ensured 𝓤 H A ran.ended (ran.clauses 𝓤 H A at-mem run) (κ′, (κ″, tt)) (h, (x, (y, (i, (n, tt))))) tt r)))) (id⊢ 𝓤 _) $ await ! tt $ pick ! (λ r.
         -- what `playback::replay` ensures, at some last list
         split ! $ move ! (1 ∷ []) $ use1 W (some (λ (zs : Unit {0} × (List ℕ × (Unit {0} × (Unit {0} × (Unit {0} × Unit {0}))))). ‵ (lasts ran.ended (κ′, (κ″, tt)) (h, (x, (y, (i, (n, tt))))) zs) ⊛ raw (fact 𝓤 (Said r (zs .1 .0))))) (id⊢ 𝓤 _) $ pick ! (λ zs.
         split ! $ move ! (1 ∷ []) $ heard ! (Said r (zs .1 .0)) (λ e. fsplit ! $ drop ! $ fsplit ! $ fsplit ! $ move ! (1 ∷ []) $ feqL ! (λ l.
         move ! (2 ∷ []) $ split ! $ move ! (1 ∷ []) $ gets ! O.the-type O′.the-laws 15 r refl refl (λ is.
-        -- [the tokens; the last list; …; the file's `&` (3); what the numbers own; the cell (5); the open borrow; obs; auth; _9 (9); …; _8 (11); …; _7 (13); …; _6 (15); …; _5 (17); …; _4 (19); …; _3 (21); …; _2 (23); …; _1 (25); …; _0 (27); …]
+        -- [the tokens; the last list; …; the file's `&` (3); what the numbers own; the cell (5); the open borrow; obs; auth; _9 (9); …;
+        --  _8 (11); …; _7 (13); …; _6 (15); …; _5 (17); …; _4 (19); …; _3 (21); …; _2 (23); …; _1 (25); …; _0 (27); …]
         among ! (27 ∷ 25 ∷ 15 ∷ 5 ∷ []) (hands ! B.the-type B′.the-laws (r .bank) N.the-type N′.the-laws (r .told) refl (LL.owed O.the-type O′.the-laws r _ is .0) (LL.owed O.the-type O′.the-laws r _ is .1 .0)) $
         -- the borrow is closed at the bank of the result
         move ! (5 ∷ 6 ∷ 7 ∷ 8 ∷ []) $ closed ! tt B.the-type B′.the-laws B′.the-plain (r .bank) b o (LL.owed O.the-type O′.the-laws r _ is .0) $
-        -- [obs; the borrow; its token; the other tokens; the last list; …; the file's `&` (6); what the numbers own; _9 (8); …; _8 (10); …; _7 (12); …; _6 (14); …; _5 (16); …; _4 (18); …; _3 (20); …; _2 (22); …; _1 (24); …; _0 (26); …]
+        -- [obs; the borrow; its token; the other tokens; the last list; …; the file's `&` (6); what the numbers own; _9 (8); …; _8 (10); …;
+        --  _7 (12); …; _6 (14); …; _5 (16); …; _4 (18); …; _3 (20); …; _2 (22); …; _1 (24); …; _0 (26); …]
         returns ! (look ! 26 refl) $ behind ! 8 $ freed ! (local ! (local ! (local ! (local ! (local ! (local ! (local ! (local ! (local ! (local ! (none !))))))))))) $
         keep ! (0 ∷ 1 ∷ 2 ∷ 3 ∷ 4 ∷ 6 ∷ []) $ by ! (exits r (zs .1 .0) e l (LL.owed O.the-type O′.the-laws r _ is .1 .0)))))))))))))))))))
 

@@ -33,8 +33,8 @@ show-requires-3 c κs = search needs
 enum-told-4 : tie.Need-enum-told-4
 enum-told-4 c = search needs
 
-weigh-requires : tie.Need-weigh-requires
-weigh-requires c κs = search needs
+word-if-requires : tie.Need-word-if-requires
+word-if-requires c κs = search needs
 
 show-requires-4 : tie.Need-show-requires-4
 show-requires-4 c κs = search needs
@@ -144,8 +144,8 @@ show-requires-15 c κs = search needs
 enum-told-19 : tie.Need-enum-told-19
 enum-told-19 c = search needs
 
-stage-of-requires : tie.Need-stage-of-requires
-stage-of-requires c κs = search needs
+is-idle-requires : tie.Need-is-idle-requires
+is-idle-requires c κs = search needs
 
 ops-word-requires : tie.Need-ops-word-requires
 ops-word-requires c κs = search needs
@@ -205,7 +205,7 @@ returns-3 : tie.Need-returns-3
 returns-3 c = λ o f. rw (c .before .enum-told3 .given .1) (λ w. c .show3 .ensures _ f ∙ shown-row Scratch _ refl refl)
 
 returns-4 : tie.Need-returns-4
-returns-4 c = λ o f. rw (c .before .before .enum-told4 .given .1) (λ w. c .show4 .ensures _ f ∙ shown-row Enable _ (c .before .weigh .ensures .0) refl)
+returns-4 c = λ o f. rw (c .before .before .enum-told4 .given .1) (λ w. c .show4 .ensures _ f ∙ shown-row Enable _ (c .before .word-if .ensures .0) refl)
 
 returns-5 : tie.Need-returns-5
 returns-5 c = λ o f. rw (c .before .before .enum-told5 .given .1) (λ w. c .show5 .ensures _ f ∙ shown-row IrqMask _ (c .before .wide2 .ensures .0) refl)
@@ -250,7 +250,7 @@ returns-18 : tie.Need-returns-18
 returns-18 c = λ o f. rw (c .before .before .enum-told18 .given .1) (λ w. c .show15 .ensures _ f ∙ shown-row FifoStatus _ (c .before .status-word .ensures) refl)
 
 returns-19 : tie.Need-returns-19
-returns-19 c = λ o f. rw (c .before .before .before .enum-told19 .given .1) (λ w. c .show16 .ensures _ f ∙ shown-row Ops _ (c .before .ops-word .ensures ∙ rw (c .before .before .stage-of .ensures)) refl)
+returns-19 c = λ o f. rw (c .before .before .before .enum-told19 .given .1) (λ w. c .show16 .ensures _ f ∙ shown-row Ops _ (c .before .ops-word .ensures ∙ rw (c .before .before .is-idle .ensures)) refl)
 
 returns-20 : tie.Need-returns-20
 returns-20 c = λ o f. rw (c .before .enum-told20 .given .1) (λ w. c .show17 .ensures _ f ∙ shown-row IbiConfig _ refl refl)
@@ -279,7 +279,7 @@ read-spec =
     enum-told-3
     show-requires-3
     enum-told-4
-    weigh-requires
+    word-if-requires
     show-requires-4
     enum-told-5
     wide-requires-2
@@ -316,7 +316,7 @@ read-spec =
     status-word-requires
     show-requires-15
     enum-told-19
-    stage-of-requires
+    is-idle-requires
     ops-word-requires
     show-requires-16
     enum-told-20

@@ -1,9 +1,6 @@
 -- `sessions::end_line` meets its contract.
 use Rattle.sessions.proofs.Cutting.{silent, spoken}
-use Rattle.answer.specs.Given.{controller}
 use borrow.Author.Tests.{not-true, not-false}
-use lib.ListN.{take}
-use Prim.Native.Nat.{_+_}
 use borrow.Author.Needs.{needs}
 use Rattle.sessions.proofs.end_line.Statement.{statement}
 use Rattle.sessions.proofs.end_line.Tie as tie
@@ -21,10 +18,10 @@ same-length-2 : tie.Need-same-length-2
 same-length-2 c = search needs
 
 returns : tie.Need-returns
-returns c = let a = c .before .before .before .before .before .before .before .before .before .before .before .before .before .args in let r = c .before .before .before .before .before .before .before .run in (silent (controller (a .b) (a .store .now) (a .output .now)) (a .line) (r .result) (r .last .1 .0) (r .last .1 .1 .0) (take (a .at) (a .out .now)) (r .ensures) (not-true _ (c .if1 .taken)), search needs)
+returns c = search (silent, not-true, needs)
 
 put-requires : tie.Need-put-requires
-put-requires c κs = c .before .before .before .before .before .before .before .before .before .before .before .before .before .before .before .pre
+put-requires c κs = search needs
 
 same-length-3 : tie.Need-same-length-3
 same-length-3 c = search needs
@@ -36,7 +33,7 @@ same-length-5 : tie.Need-same-length-5
 same-length-5 c = search needs
 
 returns-2 : tie.Need-returns-2
-returns-2 c = let a = c .before .before .before .before .before .before .before .before .before .before .before .before .before .before .before .before .before .before .args in let r = c .before .before .before .before .before .before .before .before .before .before .before .before .run in (spoken (controller (a .b) (a .store .now) (a .output .now)) (a .line) (r .result) (r .last .1 .0) (r .last .1 .1 .0) (take (a .at) (a .out .now)) (take (a .at + 12) (c .before .before .put .last .0)) (r .ensures) (not-false _ (c .before .before .before .before .before .if1 .left)) (c .before .before .put .ensures), search needs)
+returns-2 c = search (spoken, not-false, needs)
 
 pub end-line-spec : {M : Type 1} → statement M
 end-line-spec =

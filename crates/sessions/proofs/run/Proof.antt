@@ -1,7 +1,5 @@
 -- `sessions::run` meets its contract.
-use Rattle.sessions.specs.Session.{ranOf}
-use Rattle.answer.specs.Given.{controller}
-use mathlib.Core.Path.{sym, ap, _∙_}
+use Rattle.sessions.proofs.Cutting.{ran-call, ran-none}
 use borrow.Author.Needs.{needs}
 use Rattle.sessions.proofs.run.Statement.{statement}
 use Rattle.sessions.proofs.run.Tie as tie
@@ -28,10 +26,10 @@ same-length-2 : tie.Need-same-length-2
 same-length-2 c = search needs
 
 returns : tie.Need-returns
-returns c = let a = c .before .before .before .before .before .before .before .before .before .before .before .before .before .args in c .before .before .before .before .serve .ensures ∙ ap (ranOf (controller (a .b) (a .store .now) (a .output .now))) (sym (c .before .before .before .before .before .before .before .before .c .given .1) ∙ c .before .before .before .before .before .before .before .before .before .before .named .ensures)
+returns c = search (ran-call, needs)
 
 returns-2 : tie.Need-returns-2
-returns-2 c = let a = c .before .before .before .before .before .before .args in c .silent .ensures (a .store .now) (a .output .now) ∙ ap (ranOf (controller (a .b) (a .store .now) (a .output .now))) (sym (c .before .enum-told .given .1) ∙ c .before .before .before .named .ensures)
+returns-2 c = search (ran-none, c .silent .ensures)
 
 pub run-spec : {M : Type 1} → statement M
 run-spec =

@@ -1,8 +1,5 @@
 -- `sessions::serve` meets its contract.
-use Rattle.sessions.specs.Session.{told, answerLine}
-use Rattle.model.specs.Rings.{Controller}
-use Rattle.model.specs.Engine.{Step}
-use mathlib.Core.Path.{ap}
+use Rattle.sessions.proofs.Cutting.{served}
 use borrow.Author.Needs.{needs}
 use Rattle.sessions.proofs.serve.Statement.{statement}
 use Rattle.sessions.proofs.serve.Tie as tie
@@ -20,7 +17,7 @@ same-length-2 : tie.Need-same-length-2
 same-length-2 c = search needs
 
 returns : tie.Need-returns
-returns c = rw (c .before .line .ensures) (ap (λ (x : Step Controller). told (x .next) (answerLine (x .answer))) (c .before .before .before .before .before .before .step .ensures))
+returns c = search (served, needs)
 
 pub serve-spec : {M : Type 1} → statement M
 serve-spec = tie.close (tie.spec step-requires line-requires same-length same-length-2 returns)

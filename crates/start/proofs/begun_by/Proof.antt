@@ -1,6 +1,5 @@
 -- `start::begun_by` meets its contract.
 use mathlib.Core.Path.{sym, _∙_}
-use borrow.Author.Tests.{eq-eqb, ne-eqb}
 use Rattle.start.proofs.Words.{assigns, reads, writes}
 use borrow.Author.Needs.{needs}
 use Rattle.start.proofs.begun_by.Statement.{statement}
@@ -13,14 +12,34 @@ is-entdaa-requires : tie.Need-is-entdaa-requires
 is-entdaa-requires c κs = search needs
 
 returns : tie.Need-returns
-returns c = rw (c .before .before .opened-by .ensures) (assigns (c .before .before .before .args .two) (c .before .before .before .args .w) (c .before .before .before .args .x) (c .before .before .before .args .attached) (sym (c .before .is-entdaa .ensures) ∙ c .if1 .taken))
+returns c =
+    let e = c .before in
+    let o = e .before in
+    let a = o .before .args in
+    rw (o .opened-by .ensures) (assigns (a .two) (a .w) (a .x) (a .attached) (sym (e .is-entdaa .ensures) ∙ c .if1 .taken))
+
+low-bit-requires : tie.Need-low-bit-requires
+low-bit-requires c κs = search needs
 
 returns-2 : tie.Need-returns-2
-returns-2 c = rw (c .before .before .before .opened-by .ensures) (reads (c .before .before .before .before .args .two) (c .before .before .before .before .args .w) (c .before .before .before .before .args .x) (c .before .before .before .before .args .attached) (sym (c .before .before .is-entdaa .ensures) ∙ c .before .if1 .left) (eq-eqb _ _ (c .if2 .taken)))
+returns-2 c =
+    let b = c .before in
+    let i = b .before in
+    let e = i .before in
+    let o = e .before in
+    let a = o .before .args in
+    rw (o .opened-by .ensures) (reads (a .two) (a .w) (a .x) (a .attached) (sym (e .is-entdaa .ensures) ∙ i .if1 .left) (sym (b .low-bit .ensures) ∙ c .if2 .taken))
 
 returns-3 : tie.Need-returns-3
-returns-3 c = rw (c .before .before .before .opened-by .ensures) (writes (c .before .before .before .before .args .two) (c .before .before .before .before .args .w) (c .before .before .before .before .args .x) (c .before .before .before .before .args .attached) (sym (c .before .before .is-entdaa .ensures) ∙ c .before .if1 .left) (ne-eqb _ _ (c .if2 .left)))
+returns-3 c =
+    let b = c .before in
+    let i = b .before in
+    let e = i .before in
+    let o = e .before in
+    let a = o .before .args in
+    rw (o .opened-by .ensures) (writes (a .two) (a .w) (a .x) (a .attached) (sym (e .is-entdaa .ensures) ∙ i .if1 .left) (sym (b .low-bit .ensures) ∙ c .if2 .left))
 
 pub begun-by-spec : {M : Type 1} → statement M
 begun-by-spec =
-    tie.close (tie.spec opened-by-requires is-entdaa-requires returns returns-2 returns-3)
+    tie.close
+    (tie.spec opened-by-requires is-entdaa-requires returns low-bit-requires returns-2 returns-3)

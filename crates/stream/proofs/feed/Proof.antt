@@ -1,11 +1,6 @@
 -- `stream::feed` meets its contract.
 use borrow.Author.Needs.{needs}
-use native.Mathlib.Omega.{arith}
-use mathlib.Core.Path.{ap, sym, _∙_}
-use mathlib.Core.List.{[]}
-use Rattle.answer.specs.Given.{controller}
-use Rattle.stream_model.specs.declared.Stage.{Stage}
-use Rattle.stream_model.specs.Stream.{fed}
+use Rattle.stream.proofs.Stages.{at-opening, at-records, at-end}
 use Rattle.stream.proofs.feed.Statement.{statement}
 use Rattle.stream.proofs.feed.Tie as tie
 
@@ -31,11 +26,7 @@ same-length-2 : tie.Need-same-length-2
 same-length-2 c = search needs
 
 returns : tie.Need-returns
-unfolding fed
-returns c =
-    let a = c .before .before .before .before .before .before .before .before .before .before .before .before .args in
-    let y = c .before .before .before .before .«open» in
-    (y .ensures .0 ∙ ap (λ (x : Stage). fed (controller (a .b) (a .store .now) []) x (a .bytes .now)) (sym (c .before .before .before .before .before .before .before .enum-told .given .1)), y .ensures .1, y .ensures .2, y .ensures .3)
+returns c = (search (at-opening, needs), search needs, search needs, search needs)
 
 same-length-3 : tie.Need-same-length-3
 same-length-3 c = search needs
@@ -44,18 +35,10 @@ same-length-4 : tie.Need-same-length-4
 same-length-4 c = search needs
 
 returns-2 : tie.Need-returns-2
-unfolding fed
-returns-2 c =
-    let a = c .before .before .before .before .before .before .before .before .before .before .before .before .before .args in
-    let y = c .before .before .before .before .feed-records in
-    let m = c .before .before .before .before .before .before .before .before .stage .given in
-    (y .ensures .0 ∙ ap (λ (x : Stage). fed (controller (a .b) (a .store .now) []) x (a .bytes .now)) (sym (m .1)), y .ensures .1, y .ensures .2, omega (arith, y .ensures .3))
+returns-2 c = (search (at-records, needs), search needs, search needs, search needs)
 
 returns-3 : tie.Need-returns-3
-unfolding fed
-returns-3 c =
-    let a = c .before .before .before .before .before .args in
-    (ap (λ (x : Stage). fed (controller (a .b) (a .store .now) []) x (a .bytes .now)) (sym (c .enum-told2 .given .1)), omega arith, omega arith, omega arith)
+returns-3 c = (search (at-end, needs), search needs, search needs, search needs)
 
 pub feed-spec : {M : Type 1} → statement M
 feed-spec =

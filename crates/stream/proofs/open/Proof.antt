@@ -1,20 +1,12 @@
 -- `stream::open` meets its contract.
 use borrow.Author.Needs.{needs}
-use Prim.Native.Nat.{ℕ, _+_, _-_, _≤_, _<_}
+use Prim.Native.Nat.{_+_, _<_}
 use native.Mathlib.Omega.{arith}
-use mathlib.Core.Path.{_≡_, ap, sym, _∙_}
-use mathlib.Core.List.{List, []}
-use lib.ListN.{length, take, drop, length-drop}
-use lib.Seq.{take-all}
-use Rattle.answer.specs.Given.{controller}
-use Rattle.trace_model.proofs.Heads.{more-short, right-within}
-use Rattle.stream_model.specs.Stream.{Stream, stream, recordsOf, openedBy}
+use mathlib.Core.Path.{_≡_}
+use lib.ListN.{length}
+use Rattle.stream.proofs.Stages.{head-short, head-there, head-more, head-wrong, head-right, rest-length}
 use Rattle.stream.proofs.open.Statement.{statement}
 use Rattle.stream.proofs.open.Tie as tie
-
--- the bytes behind the head
-rest-is : (n : ℕ) (bytes : List ℕ) → take (length bytes - n) (drop n bytes) ≡ drop n bytes
-rest-is n bytes = take-all (length bytes - n) (drop n bytes) (omega (arith, length-drop n bytes))
 
 read-head-requires : tie.Need-read-head-requires
 read-head-requires c κs = search needs
@@ -23,10 +15,7 @@ enum-told : tie.Need-enum-told
 enum-told c = search needs
 
 returns : tie.Need-returns
-returns c =
-    let a = c .before .before .before .before .before .before .args in
-    let e = sym (c .before .before .read-head .ensures) ∙ c .enum-told .given .1 in
-    (ap (openedBy (controller (a .b) (a .store .now) []) (a .bytes .now)) (sym e), omega arith, omega arith, more-short (a .bytes .now) e)
+returns c = (search (head-more, needs), search needs, search needs, search (head-short, needs))
 
 enum-known-number : tie.Need-enum-known-number
 enum-known-number c = search needs
@@ -39,22 +28,21 @@ same-length c = search needs
 
 returns-2 : tie.Need-returns-2
 returns-2 c =
-    let a = c .before .before .before .before .before .before .before .before .before .before .before .args in
     let y = c .before .before .close in
-    let room : length (a .bytes .now) + 12 ≤ length (a .out .now) = c .before .before .before .before .before .before .before .before .before .before .before .pre in
-    let kept : length (y .last .1 .1 .1 .0) ≡ length (a .out .now) = search needs in
-    let m = c .before .before .before .before .before .number .given in
-    let e = sym (c .before .before .before .before .before .before .before .read-head .ensures) ∙ m .1 in
-    (y .ensures .0 (a .store .now) ∙ ap (openedBy (controller (a .b) (a .store .now) []) (a .bytes .now)) (sym e), omega (arith, room, kept, y .ensures .1), omega (arith, y .ensures .2), omega (arith, y .ensures .2))
+    let m = c .before .before .before .before .before in
+    let found = m .before .before in
+    let a = found .before .before .before .before in
+    let out : length (y .last .1 .1 .1 .0) ≡ length (a .args .out .now) = search needs in
+    (search (head-wrong, y .ensures .0, m .number .given .1, found .read-head .ensures), omega (arith, a .pre, out, y .ensures .1), search needs, search needs)
 
 enum-known-len : tie.Need-enum-known-len
 enum-known-len c = search needs
 
 sub-feed-records : tie.Need-sub-feed-records
-sub-feed-records c = right-within (c .before .before .before .before .before .before .before .before .args .bytes .now) _ _ (sym (c .before .before .before .before .read-head .ensures) ∙ c .before .before .len .given .1)
+sub-feed-records c = search (head-there, needs)
 
 part-feed-records-start : tie.Need-part-feed-records-start
-part-feed-records-start c = right-within (c .before .before .before .before .before .before .before .before .args .bytes .now) _ _ (sym (c .before .before .before .before .read-head .ensures) ∙ c .before .before .len .given .1)
+part-feed-records-start c = search (head-there, needs)
 
 part-feed-records-end : tie.Need-part-feed-records-end
 part-feed-records-end c = search needs
@@ -62,15 +50,19 @@ part-feed-records-end c = search needs
 feed-records-requires : tie.Need-feed-records-requires
 feed-records-requires c κs = search needs
 
+-- the head, seen from the records behind it
+abbrev head : tie.After-struct-known → tie.After-len
+head c = c .before .before .before .before .before .before .before .before .before .before .before
+
 add-t20 : tie.Need-add-t20
 add-t20 c =
-    let a = c .before .before .before .before .before .before .before .before .before .before .before .before .before .before .before .before .before in
-    let m = c .before .before .before .before .before .before .before .before .before .before .before .len .given in
-    let y = c .before .before .before .before .before .before .feed-records in
+    let h = head c in
+    let a = h .before .before .before .before .before .before in
     let long : length (a .args .bytes .now) < 18446744073709551616 = a .good .1 .1 .0 .0 in
-    let w = right-within (a .args .bytes .now) _ _ (sym (c .before .before .before .before .before .before .before .before .before .before .before .before .before .read-head .ensures) ∙ m .1) in
-    let d = ap length (rest-is (m .0 .0) (a .args .bytes .now)) ∙ length-drop (m .0 .0) (a .args .bytes .now) in
-    let h : m .0 .0 + y .result .used < 18446744073709551616 = omega (arith, y .ensures .2, w, d, long) in
+    let there = head-there (a .args .bytes .now) _ (h .before .before .read-head .ensures) (h .len .given .0 .0) _ (h .len .given .1) in
+    let rest = rest-length (h .len .given .0 .0) (a .args .bytes .now) in
+    let y = c .before .before .before .before .before .before .feed-records in
+    let fits : h .len .given .0 .0 + y .result .used < 18446744073709551616 = omega (arith, y .ensures .2, there, rest, long) in
     search needs
 
 same-length-2 : tie.Need-same-length-2
@@ -81,19 +73,16 @@ same-length-3 c = search needs
 
 returns-3 : tie.Need-returns-3
 returns-3 c =
-    let a = c .before .before .before .before .before .before .before .before .before .before .before .before .before .before .before .before .before .args in
-    let l = controller (a .b) (a .store .now) [] in
-    let m = c .before .before .before .before .before .before .before .before .before .before .before .len .given in
-    let y = c .before .before .before .before .before .before .feed-records in
-    let e = sym (c .before .before .before .before .before .before .before .before .before .before .before .before .before .read-head .ensures) ∙ m .1 in
-    let w = right-within (a .bytes .now) _ _ e in
-    let r = rest-is (m .0 .0) (a .bytes .now) in
-    let d = ap length r ∙ length-drop (m .0 .0) (a .bytes .now) in
-    let behind : Stream → Stream = λ s. stream (s .left) (s .stage) (m .0 .0 + s .used) (s .text) in (
-      ap behind (y .ensures .0) ∙ ap (λ (x : List ℕ). behind (recordsOf l (m .0 .1 .0) x)) r ∙ ap (openedBy l (a .bytes .now)) (sym e),
+    let h = head c in
+    let a = h .before .before .before .before .before .before .args in
+    let found = h .before .before .read-head .ensures in
+    let there = head-there (a .bytes .now) _ found (h .len .given .0 .0) _ (h .len .given .1) in
+    let rest = rest-length (h .len .given .0 .0) (a .bytes .now) in
+    let y = c .before .before .before .before .before .before .feed-records in (
+      head-right (a .bytes .now) _ found (a .b) (a .store .now) (y .result) _ _ (h .len .given .0 .0) _ (h .len .given .1) (y .ensures .0),
       y .ensures .1,
-      omega (arith, y .ensures .2, w, d),
-      omega (arith, y .ensures .3, w, d),
+      omega (arith, y .ensures .2, there, rest),
+      omega (arith, y .ensures .3, there, rest),
     )
 
 pub open-spec : {M : Type 1} → statement M

@@ -1,8 +1,6 @@
 -- `stream_end::end` meets its contract.
 use borrow.Author.Needs.{needs}
-use native.Mathlib.Omega.{arith}
-use mathlib.Core.Path.{sym, _∙_}
-use borrow.Author.Tests.{eq-eqb, ne-eqb}
+use Rattle.stream_end.proofs.Texts.{nothing-said, number-said}
 use Rattle.stream_end.proofs.end.Statement.{statement}
 use Rattle.stream_end.proofs.end.Tie as tie
 
@@ -10,7 +8,7 @@ end-number-requires : tie.Need-end-number-requires
 end-number-requires c κs = search needs
 
 returns : tie.Need-returns
-returns c = (rw (sym (c .before .end-number .ensures), eq-eqb _ _ (c .if1 .taken)), omega arith)
+returns c = (search (nothing-said, needs), search needs)
 
 refusal-requires : tie.Need-refusal-requires
 refusal-requires c κs = search needs
@@ -22,7 +20,7 @@ same-length : tie.Need-same-length
 same-length c = search needs
 
 returns-2 : tie.Need-returns-2
-returns-2 c = (rw (sym (c .before .before .before .before .before .before .end-number .ensures), ne-eqb _ _ (c .before .before .before .before .before .if1 .left)) (c .before .before .put .ensures ∙ c .before .before .before .before .refusal .ensures), omega arith)
+returns-2 c = (search (number-said, needs), search needs)
 
 pub end-spec : {M : Type 1} → statement M
 end-spec =

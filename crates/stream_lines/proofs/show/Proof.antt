@@ -1,12 +1,6 @@
 -- `stream_lines::show` meets its contract.
 use borrow.Author.Needs.{needs}
-use Prim.Native.Nat.{ℕ}
-use native.Mathlib.Omega.{arith}
-use mathlib.Core.Path.{ap, _∙_}
-use mathlib.Core.List.{List}
-use Rattle.record_model.proofs.Kept.{empty}
-use Rattle.model.specs.View.{tables}
-use Rattle.stream_lines.specs.Given.{shownParts}
+use Rattle.stream_lines.proofs.Turns.{no-output}
 use Rattle.stream_lines.proofs.show.Statement.{statement}
 use Rattle.stream_lines.proofs.show.Tie as tie
 
@@ -30,10 +24,9 @@ same-length-2 c = search needs
 
 returns : tie.Need-returns
 returns c =
-    let y = c .before .before .before .before .before .before .show-parts in
-    let z = y .last .1 in
-    let f = c .shown-of .ensures in
-    (f .0 _ _ ∙ ap (λ (o : List ℕ). shownParts (y .result) (tables (z .1 .0) (z .1 .1 .0) (z .1 .1 .1 .0) o) (z .1 .1 .1 .1 .0) (z .1 .1 .1 .1 .1 .1 .1 .1 .1 .0)) (empty (z .1 .1 .1 .1 .1 .0) (c .before .before .before .none2 .given)) ∙ y .ensures .0, omega (arith, f .1, y .ensures .1))
+    let kept = c .before .before .before in
+    let shown = kept .before .before .before .show-parts in
+    (no-output _ _ (shown .result) _ _ _ _ _ _ (c .shown-of .ensures .0 _ _) (kept .none2 .given) (shown .ensures .0), search needs)
 
 pub show-spec : {M : Type 1} → statement M
 show-spec =

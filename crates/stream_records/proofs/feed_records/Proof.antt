@@ -1,6 +1,6 @@
 -- `stream_records::feed_records` meets its contract.
 use borrow.Author.Needs.{needs}
-use Prim.Native.Nat.{_+_, _*_, _≤_, _<_}
+use Prim.Native.Nat.{_*_, _<_}
 use native.Mathlib.Omega.{arith}
 use mathlib.Core.Path.{_≡_, _∙_}
 use mathlib.Core.List.{[]}
@@ -26,25 +26,34 @@ same-length c = search needs
 same-length-2 : tie.Need-same-length-2
 same-length-2 c = search needs
 
+-- where the lines of the piece are shown, and the start, seen from the bank after them
+abbrev shown : tie.After-next → tie.After-show
+shown c = c .before .before .before .before .before
+
+abbrev start : tie.After-next → tie.Start
+start c = shown c .before .before .before .before .before .before .before
+
 returns : tie.Need-returns
 returns c =
-    let a = c .before .before .before .before .before .before .before .before .before .before .before .before .before .before .before .before .before .args in
-    let room : length (a .bytes .now) + 12 ≤ length (a .out .now) = c .before .before .before .before .before .before .before .before .before .before .before .before .before .before .before .before .before .pre in
-    let n = c .before .before .before .before .before .before .before .before .before .before .before .before .before .whole in
-    let p = c .before .before .before .before .before .before .before .before .before .before .show in
-    let y = c .before .before .close in
-    let kept : length (y .last .1 .1 .1 .0) ≡ length (p .last .1 .1 .1 .1 .0) = search needs in
-    let shown : length (p .last .1 .1 .1 .1 .0) ≡ length (a .out .now) = search (needs, c .before .before .before .before .before .before .before .out .given) in (
-      y .ensures .0 (p .last .1 .0) ∙ wrong-met (controller (a .b) (a .store .now) []) (a .due) (a .bytes .now) (n .result) _ (n .ensures .0) (p .ensures .0) (c .before .before .before .before .if1 .taken),
-      omega (arith, room, kept, shown, y .ensures .1, p .ensures .1, n .ensures .1),
-      omega (arith, y .ensures .2),
-      omega (arith, y .ensures .2),
+    let after = c .before .before .before .before .before in
+    let a = start after in
+    let p = shown after in
+    let l = controller (a .args .b) (a .args .store .now) [] in
+    let n = p .before .before .before .whole .ensures in
+    let y = c .before .before .close .ensures in
+    let same : length (c .before .before .close .last .1 .1 .1 .0) ≡ length (p .show .last .1 .1 .1 .1 .0) = search needs in
+    let room : length (p .show .last .1 .1 .1 .1 .0) ≡ length (a .args .out .now) = search (needs, after .before .before .out .given) in (
+      y .0 _ ∙ wrong-met l (a .args .due) (a .args .bytes .now) _ _ (n .0) (p .show .ensures .0) (c .before .before .before .before .if1 .taken),
+      omega (arith, a .pre, same, room, y .1, p .show .ensures .1, n .1),
+      omega (arith, y .2),
+      omega (arith, y .2),
     )
 
 mul-if2 : tie.Need-mul-if2
 mul-if2 c =
-    let n = c .before .before .before .before .before .before .before .before .before .whole in
-    let long : length (c .before .before .before .before .before .before .before .before .before .before .before .before .before .args .bytes .now) < 18446744073709551616 = c .before .before .before .before .before .before .before .before .before .before .before .before .before .good .1 .1 .1 .0 .0 in
+    let a = start (c .before) in
+    let n = shown (c .before) .before .before .before .whole in
+    let long : length (a .args .bytes .now) < 18446744073709551616 = a .good .1 .1 .1 .0 .0 in
     let h : 12 * n .result < 18446744073709551616 = omega (arith, n .ensures .1, long) in
     search needs
 
@@ -59,29 +68,30 @@ same-length-4 c = search needs
 
 returns-2 : tie.Need-returns-2
 returns-2 c =
-    let a = c .before .before .before .before .before .before .before .before .before .before .before .before .before .before .before .before .before .before .args in
-    let room : length (a .bytes .now) + 12 ≤ length (a .out .now) = c .before .before .before .before .before .before .before .before .before .before .before .before .before .before .before .before .before .before .pre in
-    let n = c .before .before .before .before .before .before .before .before .before .before .before .before .before .before .whole in
-    let p = c .before .before .before .before .before .before .before .before .before .before .before .show in
-    let y = c .before .before .close2 in
-    let kept : length (y .last .1 .1 .1 .0) ≡ length (p .last .1 .1 .1 .1 .0) = search needs in
-    let shown : length (p .last .1 .1 .1 .1 .0) ≡ length (a .out .now) = search (needs, c .before .before .before .before .before .before .before .before .out .given) in (
-      y .ensures .0 (p .last .1 .0) ∙ too-long (controller (a .b) (a .store .now) []) (a .due) (a .bytes .now) (n .result) _ (n .ensures .0) (p .ensures .0) (c .before .before .before .before .before .if1 .left) (c .before .before .before .before .if2 .taken),
-      omega (arith, room, kept, shown, y .ensures .1, p .ensures .1, n .ensures .1),
-      omega (arith, y .ensures .2),
-      omega (arith, y .ensures .2),
+    let after = c .before .before .before .before .before .before in
+    let a = start after in
+    let p = shown after in
+    let l = controller (a .args .b) (a .args .store .now) [] in
+    let n = p .before .before .before .whole .ensures in
+    let y = c .before .before .close2 .ensures in
+    let same : length (c .before .before .close2 .last .1 .1 .1 .0) ≡ length (p .show .last .1 .1 .1 .1 .0) = search needs in
+    let room : length (p .show .last .1 .1 .1 .1 .0) ≡ length (a .args .out .now) = search (needs, after .before .before .out .given) in (
+      y .0 _ ∙ too-long l (a .args .due) (a .args .bytes .now) _ _ (n .0) (p .show .ensures .0) (c .before .before .before .before .before .if1 .left) (c .before .before .before .before .if2 .taken),
+      omega (arith, a .pre, same, room, y .1, p .show .ensures .1, n .1),
+      omega (arith, y .2),
+      omega (arith, y .2),
     )
 
 sub-t18 : tie.Need-sub-t18
 sub-t18 c =
-    let a = c .before .before .before .before .before .before .before .before .before .before .before .before .before .before .args in
-    let n = c .before .before .before .before .before .before .before .before .before .before .whole in
-    omega (arith, n .ensures .0, within-most (a .due) (a .bytes .now))
+    let after = c .before .before in
+    omega (arith, shown after .before .before .before .whole .ensures .0, within-most (start after .args .due) (start after .args .bytes .now))
 
 mul-t24 : tie.Need-mul-t24
 mul-t24 c =
-    let n = c .before .before .before .before .before .before .before .before .before .before .whole in
-    let long : length (c .before .before .before .before .before .before .before .before .before .before .before .before .before .before .args .bytes .now) < 18446744073709551616 = c .before .before .before .before .before .before .before .before .before .before .before .before .before .before .good .1 .1 .1 .0 .0 in
+    let a = start (c .before .before) in
+    let n = shown (c .before .before) .before .before .before .whole in
+    let long : length (a .args .bytes .now) < 18446744073709551616 = a .good .1 .1 .1 .0 .0 in
     let h : 12 * n .result < 18446744073709551616 = omega (arith, n .ensures .1, long) in
     search needs
 
@@ -93,15 +103,16 @@ same-length-6 c = search needs
 
 returns-3 : tie.Need-returns-3
 returns-3 c =
-    let a = c .before .before .before .before .before .before .before .before .before .before .before .before .before .before .args in
-    let room : length (a .bytes .now) + 12 ≤ length (a .out .now) = c .before .before .before .before .before .before .before .before .before .before .before .before .before .before .pre in
-    let n = c .before .before .before .before .before .before .before .before .before .before .whole in
-    let p = c .before .before .before .before .before .before .before .show in
-    let shown : length (p .last .1 .1 .1 .1 .0) ≡ length (a .out .now) = search needs in (
-      goes-on (controller (a .b) (a .store .now) []) (a .due) (a .bytes .now) (n .result) _ (n .ensures .0) (p .ensures .0) (c .before .if1 .left) (c .if2 .left),
-      omega (arith, room, shown, p .ensures .1, n .ensures .1),
-      n .ensures .1,
-      rest-short (a .due) (a .bytes .now) (n .result) (n .ensures .0) (c .if2 .left),
+    let after = c .before .before in
+    let a = start after in
+    let p = shown after in
+    let l = controller (a .args .b) (a .args .store .now) [] in
+    let n = p .before .before .before .whole .ensures in
+    let room : length (p .show .last .1 .1 .1 .1 .0) ≡ length (a .args .out .now) = search needs in (
+      goes-on l (a .args .due) (a .args .bytes .now) _ _ (n .0) (p .show .ensures .0) (c .before .if1 .left) (c .if2 .left),
+      omega (arith, a .pre, room, p .show .ensures .1, n .1),
+      n .1,
+      search (rest-short, n .0, c .if2 .left),
     )
 
 pub feed-records-spec : {M : Type 1} → statement M

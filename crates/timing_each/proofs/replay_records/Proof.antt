@@ -8,17 +8,17 @@ use borrow.Author.Needs.{needs}
 use Rattle.model.specs.Engine.{Step, step}
 use Rattle.model.specs.Rings.{Controller, rings}
 use Rattle.answer.specs.Given.{controller}
-use Rattle.record_model.specs.Record.{each}
+use Rattle.record_model.specs.Record.{eachRecord}
 use Rattle.record_model.proofs.Each.{goes, stops, ends, starts}
 use Rattle.record_model.proofs.Kept.{same-size, same-output}
-use Rattle.playback_model.specs.Replay.{Replay, telling, begun, did, wrong}
+use Rattle.playback_model.specs.Replay.{Replay, telling, replayBegun, did, wrong}
 use Rattle.timing_each.proofs.replay_records.Statement.{statement}
 use Rattle.timing_each.proofs.replay_records.Tie as tie
 
 abbrev Inv-loop : tie.InvT-loop
 Inv-loop store₀ records n bank₀ a₀ none₀ i₀ store bank a none i =
     (i ≤ n) × (n < 18446744073709551616) × (12 * n ≤ length records) × (length store ≡ length store₀) × (length none ≡ 0)
-    × (each did wrong (n - i) records i (telling 0 i a (controller bank store none)) ≡ each did wrong n records 0 (begun 0 (controller bank₀ store₀ [])))
+    × (eachRecord did wrong (n - i) records i (telling 0 i a (controller bank store none)) ≡ eachRecord did wrong n records 0 (replayBegun 0 (controller bank₀ store₀ [])))
 
 abbrev μ-loop : tie.MeasureT-loop
 μ-loop store₀ records n bank₀ a₀ none₀ i₀ store bank a none i = n - i
@@ -72,8 +72,8 @@ loop-again c =
       l .inv .2,
       ap (λ (z : Step Controller). length (z .next .store)) y ∙ same-size x (m .0 .0) ∙ l .inv .3,
       ap (λ (z : Step Controller). length (z .next .output)) y ∙ same-output x (m .0 .0) ∙ l .inv .4,
-      ap (λ (z : Step Controller). each did wrong (a .n - (l .i + 1)) (a .records .now) (l .i + 1) (telling 0 (l .i + 1) (z .answer) (z .next))) y
-          ∙ ap (λ (k : ℕ). each did wrong (a .n - (l .i + 1)) (a .records .now) (l .i + 1) (telling 0 k (r .answer) (r .next))) j
+      ap (λ (z : Step Controller). eachRecord did wrong (a .n - (l .i + 1)) (a .records .now) (l .i + 1) (telling 0 (l .i + 1) (z .answer) (z .next))) y
+          ∙ ap (λ (k : ℕ). eachRecord did wrong (a .n - (l .i + 1)) (a .records .now) (l .i + 1) (telling 0 k (r .answer) (r .next))) j
           ∙ goes did wrong (a .n) (l .i) (a .records .now) (telling 0 (l .i) (l .a) x) (m .0 .0) h (sym (c .before .before .before .before .before .before .before .before .before .before .before .at .ensures) ∙ m .1) ∙ l .inv .5,
     )
 

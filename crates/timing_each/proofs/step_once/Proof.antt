@@ -1,4 +1,5 @@
--- `timing_each::step_once` meets its contract: a walk of its MIR, by hand. The bank's local is lent for a lifetime that is made for the call, and comes back at the value that `step_in_place` says; the store and the output are given up to the call for good.
+-- `timing_each::step_once` meets its contract: a walk of its MIR, by hand. The bank's local is lent for a lifetime that is made for the
+-- call, and comes back at the value that `step_in_place` says; the store and the output are given up to the call for good.
 -- Assumes nothing.
 use mathlib.Core.Path.{_≡_, refl}
 use Prim.Native.Nat.{ℕ}
@@ -158,7 +159,8 @@ module _ {M : Type 1} (𝓤 : URA M) (H : Heap 𝓤) (A : Atoms 𝓤) (W : Given
         qed W (Tokens ∷ ‵ (owns (B.the-row ∷ K.the-row ∷ MutSlice (named 0) κ u32 ∷ MutSlice (named 1) κ′ u32 ∷ []) a at) ∷ []) ∵ enter ! C Λ code.function (bank-val h ∷ call-val k ∷ s ∷ s″ ∷ []) _ $
         alloc1 ! (λ l₀. alloc1 ! (λ l₁. alloc1 ! (λ l₂. alloc1 ! (λ l₃. alloc1 ! (λ l₄. alloc1 ! (λ l₅. alloc1 ! (λ l₆. alloc1 ! (λ l₇. alloc1 ! (λ l₈. alloc1 ! (λ l₉. alloc1 ! (λ l₁₀. alloc1 ! (λ l₁₁. alloc1 ! (λ l₁₂. alloc0 ! $ params1 ! $
         pass1 ! (init ! 22 refl (LL.lawful B.the-type B′.the-laws 𝓤 H A W .typed h _ g .0)) $ pass1 ! (init ! 20 refl (EL.lawful K.the-type K′.the-laws 𝓤 H A W tt .typed k _ gk .0)) $ pass1 ! (init ! 18 refl (tt, (tt, (record { fits = room .0 }, tt)))) $ pass1 ! (init ! 16 refl (tt, (tt, (record { fits = room″ .0 }, tt)))) $ pass0 ! $
-        -- [_12 (0); …; _11 (2); …; _10 (4); …; _9 (6); …; _8 (8); …; _7 (10); …; _6 (12); …; _5 (14); …; _4 (16); …; _3 (18); …; _2 (20); …; _1 (22); …; _0 (24); …; the tokens (26); what the parameters own (27)]
+        -- [_12 (0); …; _11 (2); …; _10 (4); …; _9 (6); …; _8 (8); …; _7 (10); …; _6 (12); …; _5 (14); …; _4 (16); …; _3 (18); …;
+        --  _2 (20); …; _1 (22); …; _0 (24); …; the tokens (26); what the parameters own (27)]
         assigns ! (of-opd ! (load ! (from ! (stop !)) (look ! 22 refl))) (from ! (stop !)) (init ! 14 refl (LL.lawful B.the-type B′.the-laws 𝓤 H A W .typed h _ g .0)) $
         assigns ! (addr ! (from ! (stop !))) (from ! (stop !)) (init ! 10 refl (tt, tt)) $
         among ! (18 ∷ 8 ∷ 6 ∷ []) (relends ! refl refl refl (tt, tt) (tt, (tt, (record { fits = room .0 }, tt)))) $
@@ -167,17 +169,20 @@ module _ {M : Type 1} (𝓤 : URA M) (H : Heap 𝓤) (A : Atoms 𝓤) (W : Given
         move ! (14 ∷ []) $ lends ! tt B.the-type B′.the-laws B′.the-plain h l₅ g (λ ν δ.
         -- [the new token; the loan; the lender's part; _12 (3); …; the tokens (28); what the parameters own (29)]
         move ! (29 ∷ []) $ fsplit ! $ drop ! $ fsplit ! $ drop ! $ move ! (1 ∷ 29 ∷ []) $ join ! $ move ! (0 ∷ 2 ∷ 1 ∷ []) $ use3 W (raw (Step 𝓤 H A at-mem run .pre (to-step ν l₅ δ))) (goes-step ν l₅ δ) $
-        -- [what the call asks; the lender's part; _12 (2); …; _11 (4); …; _10 (6); …; _9 (8); …; _8 (10); …; _7 (12); …; _6 (14); …; … (16); _4 (17); …; _3 (19); …; _2 (21); …; _1 (23); …; _0 (25); …]
+        -- [what the call asks; the lender's part; _12 (2); …; _11 (4); …; _10 (6); …; _9 (8); …; _8 (10); …; _7 (12); …;
+        --  _6 (14); …; … (16); _4 (17); …; _3 (19); …; _2 (21); …; _1 (23); …; _0 (25); …]
         calls-at ! fm (Step 𝓤 H A at-mem run) known (to-step ν l₅ δ) (and-then ! (load ! (from ! (stop !)) (look ! 12 refl)) (and-then ! (load ! (from ! (stop !)) (look ! 8 refl)) (and-then ! (load ! (from ! (stop !)) (look ! 4 refl)) (and-then ! (load ! (from ! (stop !)) (look ! 21 refl)) (no-more !))))) (λ w.
         use1 W (later (some (λ (r : Answer). ((‵ (flft (ν ∷ []) fullShare) ⊛ Tokens) ⊛ ‵ (N.the-row .own r (w ∷ []))) ⊛ raw (ensured 𝓤 H A step.ended (step.clauses 𝓤 H A at-mem run) (ν ∷ [], (κ, (κ′, tt))) (loan l₅ δ, (x, (y, (k, tt)))) tt r)))) (id⊢ 𝓤 _) $ await ! tt $ pick ! (λ r.
         split ! $ move ! (1 ∷ []) $ use1 W (some (λ (zs : Bank × (List ℕ × (List ℕ × (Unit {0} × Unit {0})))). ‵ (lasts step.ended (ν ∷ [], (κ, (κ′, tt))) (loan l₅ δ, (x, (y, (k, tt)))) zs) ⊛ raw (fact 𝓤 (Said r (zs .0) (zs .1 .0) (zs .1 .1 .0))))) (id⊢ 𝓤 _) $ pick ! (λ zs.
         split ! $ move ! (1 ∷ []) $ heard ! (Said r (zs .0) (zs .1 .0) (zs .1 .1 .0)) (λ e. fsplit ! $ move ! (1 ∷ []) $ fsplit ! $ fsplit ! $ move ! (1 ∷ []) $ feqL ! (λ l. move ! (1 ∷ []) $ fsplit ! $ fsplit ! $ move ! (1 ∷ []) $ feqL ! (λ l″.
         -- [the output's last list; …; the store's last list; the bank's last value; what comes back (4); …]
         move ! (4 ∷ []) $ split ! $ move ! (1 ∷ []) $ gets ! N.the-type N′.the-laws 18 r refl refl (λ is.
-        -- [the tokens; the output's last list; …; the store's last list (3); the bank's last value (4); the lender's part (5); _12 (6); …; _11 (8); …; _10 (10); …; _9 (12); …; _8 (14); …; _7 (16); …; _6 (18); …]
+        -- [the tokens; the output's last list; …; the store's last list (3); the bank's last value (4); the lender's part (5); _12 (6); …;
+        --  _11 (8); …; _10 (10); …; _9 (12); …; _8 (14); …; _7 (16); …; _6 (18); …]
         -- the lifetime is ended, and the local comes back at its last value
         split ! $ move ! (0 ∷ 6 ∷ 5 ∷ []) $ comes-back ! tt B.the-type B′.the-laws (zs .0) l₅ (λ gz. sink ! 18 $
-        -- [_5; the tokens; the output's last list; …; the store's last list; _12 (5); …; _11 (7); …; _10 (9); …; _9 (11); …; _8 (13); …; _7 (15); …; _6 (17); …; … (19); _4 (20); …; _3 (22); …; _2 (24); …; _1 (26); …; _0 (28); …]
+        -- [_5; the tokens; the output's last list; …; the store's last list; _12 (5); …; _11 (7); …; _10 (9); …; _9 (11); …; _8 (13); …;
+        --  _7 (15); …; _6 (17); …; … (19); _4 (20); …; _3 (22); …; _2 (24); …; _1 (26); …; _0 (28); …]
         among ! (28 ∷ 18 ∷ 16 ∷ 4 ∷ []) (packs ! B′.mir N′.mir (bank-val (zs .0)) (ans-val r) refl refl refl (LL.lawful B.the-type B′.the-laws 𝓤 H A W .typed (zs .0) _ gz .0) (LL.lawful O.the-type O′.the-laws 𝓤 H A W .typed (out (zs .0) r) _ (made (zs .0) r w gz is) .0)) $
         returns ! (look ! 28 refl) $ behind ! 4 $ freed ! (local ! (local ! (local ! (local ! (local ! (local ! (local ! (local ! (local ! (local ! (local ! (local ! (local ! (none !)))))))))))))) $
         keep ! (0 ∷ 1 ∷ 3 ∷ []) $ by ! (exits r w (zs .0) (zs .1 .0) (zs .1 .1 .0) e l l″ gz is)))))))))))))))))))))))

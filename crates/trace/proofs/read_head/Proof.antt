@@ -6,22 +6,22 @@ use Rattle.trace.proofs.read_head.Statement.{statement}
 use Rattle.trace.proofs.read_head.Tie as tie
 
 returns : tie.Need-returns
-returns c = mark-cut (c .before .before .args .bytes .now) (c .if1 .taken)
+returns c = search (mark-cut, needs)
 
 marked-requires : tie.Need-marked-requires
 marked-requires c κs = search needs
 
 returns-2 : tie.Need-returns-2
-returns-2 c = mark-wrong (c .before .before .before .before .args .bytes .now) _ (c .before .before .if1 .left) (c .before .marked .ensures) (c .if2 .taken)
+returns-2 c = search (mark-wrong, needs)
 
 returns-3 : tie.Need-returns-3
-returns-3 c = count-cut (c .before .before .before .before .before .args .bytes .now) _ (c .before .before .before .if1 .left) (c .before .before .marked .ensures) (c .before .if2 .left) (c .if3 .taken)
+returns-3 c = search (count-cut, needs)
 
 count-told-requires : tie.Need-count-told-requires
 count-told-requires c κs = search needs
 
 returns-4 : tie.Need-returns-4
-returns-4 c = c .count-told .ensures ∙ count-there (c .before .before .before .before .before .before .args .bytes .now) _ (c .before .before .before .marked .ensures) (c .before .before .if2 .left) (c .before .if3 .left)
+returns-4 c = search (_∙_, count-there, needs)
 
 pub read-head-spec : {M : Type 1} → statement M
 read-head-spec =

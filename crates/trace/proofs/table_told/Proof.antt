@@ -1,6 +1,5 @@
 -- `trace::table_told` meets its contract.
 use borrow.Author.Needs.{needs}
-use mathlib.Core.Path.{refl}
 use Rattle.trace_model.proofs.Heads.{starts-wrong, too-large, table-right}
 use Rattle.trace.proofs.table_told.Statement.{statement}
 use Rattle.trace.proofs.table_told.Tie as tie
@@ -9,14 +8,10 @@ walk-requires : tie.Need-walk-requires
 walk-requires c κs = search needs
 
 returns : tie.Need-returns
-returns c =
-    let a = c .before .before .before .before in
-    starts-wrong (a .args .bytes .now) (a .args .n) (a .pre .0) _ (c .before .before .walk .ensures .0) (c .if1 .taken)
+returns c = search (starts-wrong, needs)
 
 returns-2 : tie.Need-returns-2
-returns-2 c =
-    let a = c .before .before .before .before .before in
-    too-large (a .args .bytes .now) (a .args .n) (a .pre .0) _ (c .before .before .before .walk .ensures .1) (c .if2 .taken)
+returns-2 c = search (too-large, needs)
 
 mul-len : tie.Need-mul-len
 mul-len c = search needs
@@ -28,10 +23,7 @@ sub-t8 : tie.Need-sub-t8
 sub-t8 c = search needs
 
 returns-3 : tie.Need-returns-3
-returns-3 c =
-    let a = c .before .before .before .before .before in
-    let w = c .before .before .before .walk in
-    table-right (a .args .bytes .now) (a .args .n) (a .pre .0) _ _ _ (w .ensures .0) (c .before .if1 .left) (w .ensures .1) (c .if2 .left) refl
+returns-3 c = search (table-right, needs)
 
 pub table-told-spec : {M : Type 1} → statement M
 table-told-spec =

@@ -1,11 +1,11 @@
--- `trace::marked` meets its contract.
+-- `trace_table::marked` meets its contract.
 use borrow.Author.Needs.{needs}
 use Rattle.trace_model.proofs.Table.{mark-short, mark-bytes}
 use Rattle.trace_table.proofs.marked.Statement.{statement}
 use Rattle.trace_table.proofs.marked.Tie as tie
 
 returns : tie.Need-returns
-returns c = mark-short (c .before .before .args .file .now) (c .if1 .taken)
+returns c = search (mark-short, needs)
 
 shared-slice-read-result : tie.Need-shared-slice-read-result
 shared-slice-read-result c = search needs
@@ -32,7 +32,7 @@ element-copy-out-result-4 : tie.Need-element-copy-out-result-4
 element-copy-out-result-4 c = search needs
 
 returns-2 : tie.Need-returns-2
-returns-2 c = mark-bytes (c .before .before .before .before .before .before .before .before .before .before .args .file .now) (c .before .before .before .before .before .before .before .before .if1 .left)
+returns-2 c = search (mark-bytes, needs)
 
 pub marked-spec : {M : Type 1} → statement M
 marked-spec =

@@ -1,14 +1,15 @@
--- `trace::walk` meets its contract: a turn adds one section to both answers.
+-- `trace_table::walk` meets its contract: each turn adds one section to both results.
 use borrow.Author.Needs.{needs}
 use Prim.Native.Nat.{_+_, _-_, _*_, _≤_}
 use mathlib.Core.Path.{_≡_, refl}
-use Rattle.trace_model.specs.Format.{records, placeOf, startsRight}
-use Rattle.trace_model.proofs.Table.{starts-turn, place-turn, turned}
+use Rattle.trace_model.specs.Format.{records, sectionPlace, startsRight}
+use Rattle.trace_model.proofs.Table.{starts-turn, place-turn}
+use Rattle.trace_table.proofs.Tests.{all-start, last-ends}
 use Rattle.trace_table.proofs.walk.Statement.{statement}
 use Rattle.trace_table.proofs.walk.Tie as tie
 
 abbrev Inv-loop : tie.InvT-loop
-Inv-loop file n right₀ at₀ i₀ right at i = (i ≤ n) × (right ≡ startsRight file i) × (at ≡ placeOf file i) × (at ≤ 518 + 51539607552 * i)
+Inv-loop file n right₀ at₀ i₀ right at i = (i ≤ n) × (right ≡ startsRight file i) × (at ≡ sectionPlace file i) × (at ≤ 518 + 51539607552 * i)
 
 abbrev μ-loop : tie.MeasureT-loop
 μ-loop file n right₀ at₀ i₀ right at i = n - i
@@ -42,10 +43,13 @@ loop-less : tie.Need-loop-less Inv-loop μ-loop
 loop-less c = search needs
 
 loop-again : tie.Need-loop-again Inv-loop μ-loop
-loop-again c = let l = c .before .before .before .before .loop in let i = l .inv in (search needs, starts-turn (c .before .before .before .before .before .before .args .file .now) (l .i) (l .right) _ (l .at) (i .1) (c .before .before .start-at .ensures) (i .2), place-turn (c .before .before .before .before .before .before .args .file .now) (l .i) (c .before .count-at .result) (l .at) _ (c .before .count-at .ensures) (i .2) (c .past .ensures), search needs)
+loop-again c =
+    let l = c .before .before .before .before in
+    let placed = place-turn (l .before .before .args .file .now) (l .loop .i) _ _ _ (c .before .count-at .ensures) (l .loop .inv .2) (c .past .ensures) in
+    (search needs, search (starts-turn, needs), placed, search needs)
 
 returns : tie.Need-returns Inv-loop μ-loop
-returns c = let l = c .before .loop in turned (c .before .before .before .args .file .now) _ (l .i) (l .right) (l .at) (l .inv .0) (c .loop-test .left) (l .inv .1) (l .inv .2)
+returns c = (search (all-start, needs), search (last-ends, needs))
 
 pub walk-spec : {M : Type 1} → statement M
 walk-spec =

@@ -31,8 +31,8 @@ element-copy-out-private-phase c = search needs
 private-phase-requires : tie.Need-private-phase-requires
 private-phase-requires c κs = search needs
 
-stand-requires : tie.Need-stand-requires
-stand-requires c κs = search needs
+burst-at-requires : tie.Need-stand-requires
+burst-at-requires c κs = search needs
 
 none-requires : tie.Need-none-requires
 none-requires c κs = search needs
@@ -45,7 +45,7 @@ unfolding trigger
 returns-2 c = λ p o f h. let i = c .before .before .before .before .before .before .before in
     let a = c .before .before .before .before .before .before .before .before .before in
     let t = tables (a .args .flags .now) (a .args .commands .now) p o in
-    rw (c .done .ensures t, c .before .none .ensures, c .before .before .stand .ensures, c .before .before .before .before .private-phase .ensures) (served-as trigger (seen (a .args .st) t f) refl (sym (i .before .trigger-number .ensures (a .args .flags .now) p o f h) ∙ i .if1 .left))
+    rw (c .done .ensures t, c .before .none .ensures, c .before .before .burst-at .ensures, c .before .before .before .before .private-phase .ensures) (served-as trigger (seen (a .args .st) t f) refl (sym (i .before .trigger-number .ensures (a .args .flags .now) p o f h) ∙ i .if1 .left))
 
 pub trigger-spec : {M : Type 1} → statement M
 trigger-spec =
@@ -58,7 +58,7 @@ trigger-spec =
     cast-at
     element-copy-out-private-phase
     private-phase-requires
-    stand-requires
+    burst-at-requires
     none-requires
     done-requires
     returns-2)

@@ -29,8 +29,11 @@ done-with-requires c κs = search needs
 returns : tie.Need-returns
 unfolding tablesBy
 returns c =
-    let a = c .before .before .before .before .before .args in
-    λ t f. c .done-with .ensures t ∙ rw (c .before .table-if .ensures t, c .before .before .none .ensures, flags-by t (bits 15 9 (a .x)) (bits 3 1 (a .x)) (bit 8 (a .x))) (served-as (λ v. write (row DevChar) v (a .x)) (seen (a .st) t f) refl refl)
+    let none = c .before .before in
+    let a = none .before .before .before .args in
+    λ t f. c .done-with .ensures t
+    ∙ rw (c .before .table-if .ensures t, none .none .ensures, flags-by t (bits 15 9 (a .x)) (bits 3 1 (a .x)) (bit 8 (a .x)))
+    (served-as (λ v. write (row DevChar) v (a .x)) (seen (a .st) t f) refl refl)
 
 pub write-device-spec : {M : Type 1} → statement M
 write-device-spec =

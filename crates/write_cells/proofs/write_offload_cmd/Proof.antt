@@ -1,14 +1,13 @@
 -- `write_cells::write_offload_cmd` meets its contract.
 use mathlib.Core.Path.{refl, _∙_}
-use mathlib.Core.Bool.{cond}
 use borrow.Author.Needs.{needs}
 use Rattle.registers.specs.declared.Register.the-variants.{OffloadCmd}
-use Rattle.model.specs.Decision.{unchanged, _withNumber_, _withTables_}
 use Rattle.model.specs.Registers.{row, write}
 use Rattle.effect.specs.declared.Table.the-variants.{Command}
 use Rattle.effect.specs.Effects.{tablesBy}
 use Rattle.effect.specs.Seen.{seen}
 use Rattle.effect.proofs.Laws.{made-row}
+use Rattle.write_cells.proofs.Rows.{tableIf}
 use Rattle.write_cells.proofs.write_offload_cmd.Statement.{statement}
 use Rattle.write_cells.proofs.write_offload_cmd.Tie as tie
 
@@ -22,7 +21,9 @@ returns : tie.Need-returns
 unfolding tablesBy
 returns c =
     let a = c .before .before .args in
-    λ t f. let s = seen (a .st) t f in c .put-entry .ensures t ∙ made-row (λ v. write (row (OffloadCmd (a .i))) v (a .x)) s (λ n k. unchanged s withNumber n withTables cond k (tablesBy (Command (a .i) (a .x)) t) t) _ refl (c .before .burst-number .ensures) refl (λ m. refl)
+    λ t f. let s = seen (a .st) t f in
+    c .put-entry .ensures t
+    ∙ made-row (λ v. write (row (OffloadCmd (a .i))) v (a .x)) s (tableIf s (Command (a .i) (a .x))) _ refl (c .before .burst-number .ensures) refl (λ m. refl)
 
 pub write-offload-cmd-spec : {M : Type 1} → statement M
 write-offload-cmd-spec = tie.close (tie.spec burst-number-requires put-entry-requires returns)

@@ -1,13 +1,11 @@
 -- `write_cells::write_ops` meets its contract.
-use Prim.Native.Nat.{_%_, _^_}
 use mathlib.Core.Path.{refl, _∙_}
-use mathlib.Core.Bool.{cond}
 use borrow.Author.Needs.{needs}
 use Rattle.registers.specs.declared.Register.the-variants.{Ops}
-use Rattle.model.specs.Decision.{unchanged, _withNumber_, _withRegs_}
 use Rattle.model.specs.Registers.{row, write}
 use Rattle.effect.specs.Seen.{seen}
 use Rattle.effect.proofs.Laws.{made-row}
+use Rattle.write_cells.proofs.Rows.{opsIf}
 use Rattle.write_cells.proofs.write_ops.Statement.{statement}
 use Rattle.write_cells.proofs.write_ops.Tie as tie
 
@@ -23,8 +21,9 @@ put-regs-requires c κs = search needs
 returns : tie.Need-returns
 returns c =
     let a = c .before .before .before .before .args in
-    let g = a .st .regs in
-    λ t f. c .put-regs .ensures t f ∙ rw (c .before .ops-if .ensures) (let s = seen (a .st) t f in made-row (λ v. write (row Ops) v (a .x)) s (λ n k. unchanged s withNumber n withRegs record { id = g .id; scratch = g .scratch; mask = g .mask; ops = cond k (a .x % 2 ^ 7) (g .ops); config = g .config; selected = g .selected; marks = g .marks }) _ refl (c .before .before .before .burst-number .ensures) refl (λ m. refl))
+    λ t f. let s = seen (a .st) t f in
+    c .put-regs .ensures t f
+    ∙ rw (c .before .ops-if .ensures) (made-row (λ v. write (row Ops) v (a .x)) s (opsIf s (a .x)) _ refl (c .before .before .before .burst-number .ensures) refl (λ m. refl))
 
 pub write-ops-spec : {M : Type 1} → statement M
 write-ops-spec =

@@ -4,6 +4,7 @@
 use crate::demand::clause::{Clause, ALL_CLAUSES};
 use crate::demand::judge;
 use crate::lines::{parse_line, run_session, Mode, Request};
+use crate::number::DONE;
 
 pub const RELEASE: &str = "W 0040 00000000";
 pub const RESET: &str = "W 0040 00000001";
@@ -62,14 +63,15 @@ impl Session {
         answers.map(|answer| answer + "\n").collect()
     }
 
-    /// Whether a row has this beginning of its line and this end of its answer.
-    pub fn is(&self, row: usize, line: &str, number: &str) -> bool {
+    /// Whether a row's line begins so and its answer has this number.
+    pub fn is(&self, row: usize, line: &str, number: u8) -> bool {
         let Row { line: text, answer } = &self.rows[row];
-        text.starts_with(line) && answer.as_ref().is_some_and(|a| a.ends_with(number))
+        let end = format!(" {number:02}");
+        text.starts_with(line) && answer.as_ref().is_some_and(|a| a.ends_with(&end))
     }
 
     /// The first such row from `from` on.
-    pub fn find(&self, from: usize, line: &str, number: &str) -> usize {
+    pub fn find(&self, from: usize, line: &str, number: u8) -> usize {
         let mut rows = from..self.rows.len();
         rows.find(|row| self.is(*row, line, number)).unwrap()
     }
@@ -80,7 +82,7 @@ impl Session {
         self.rows.iter().position(|row| row.line == line).unwrap()
     }
 
-    pub fn count(&self, line: &str, number: &str) -> usize {
+    pub fn count(&self, line: &str, number: u8) -> usize {
         let rows = 0..self.rows.len();
         rows.filter(|row| self.is(*row, line, number)).count()
     }
@@ -103,12 +105,12 @@ impl Session {
     /// A receipt changed alike in the finish and in the read that takes it.
     pub fn set_receipt(&mut self, finish: usize, value: u32) {
         let old = self.value(finish);
-        let mut read = self.find(finish, RECEIPT, " 00");
+        let mut read = self.find(finish, RECEIPT, DONE);
         while self.value(read) != old {
-            read = self.find(read + 1, RECEIPT, " 00");
+            read = self.find(read + 1, RECEIPT, DONE);
         }
-        self.set(finish, value, 0);
-        self.set(read, value, 0);
+        self.set(finish, value, DONE);
+        self.set(read, value, DONE);
     }
 
     /// The clauses broken, each with its row.
@@ -230,7 +232,7 @@ impl Script {
         self.end(if moved == length { 0 } else { 1 }, moved);
     }
 
-    /// A start refused with 15; only a reset goes on.
+    /// A start answered `SDO_NOT_EMPTY`; only a reset goes on.
     fn entdaa_refused(&mut self) {
         self.mark("ENTDAA refused");
         self.command(CCC | 0x311);
@@ -276,8 +278,8 @@ impl Script {
         self.end(8, 0);
     }
 
-    /// Four commands wait, more words are dropped, receipts fill CMDR, a finish is
-    /// refused with 13.
+    /// Four commands wait, more words are dropped, receipts fill CMDR, a finish has no
+    /// room.
     fn full_queues(&mut self) {
         self.mark("full queues");
         for _ in 0..6 {
@@ -301,7 +303,7 @@ impl Script {
 }
 
 /// Many transfers of each kind, more than 256 receipts in one part, resets in open
-/// transfers, words dropped with 1, an address word answered 19.
+/// transfers, words dropped, an address word with wrong parity.
 pub fn long_session() -> Session {
     let mut script = Script {
         lines: Vec::new(),

@@ -1,4 +1,4 @@
-//! Tests of offload bursts. 02 is section 3 of the change requests.
+//! Tests of offload bursts (02 §3).
 
 use super::*;
 
@@ -68,8 +68,8 @@ fn assert_refused(bank: &mut Bank, call: &Call, output: &mut [u32], number: u8) 
     assert_eq!(output, output_before);
 }
 
-/// 02: the whole of a burst by hand. Data words go to the writes in turn, so the
-/// second write, which is the third command, has the second word.
+/// The whole of a burst by hand. Data words go to the writes in turn, so the second write,
+/// which is the third command, has the second word.
 #[test]
 fn a_worked_burst() {
     let commands = [
@@ -87,16 +87,16 @@ fn a_worked_burst() {
 
     assert_eq!(bank.send(&output), done(0xa5));
     assert_eq!(bank.send(&output), done(0xc3));
-    assert_eq!(bank.send(&output), refuse(11));
-    assert_eq!(bank.receive(0, &output), refuse(10));
+    assert_eq!(bank.send(&output), refuse(LENGTH_REACHED));
+    assert_eq!(bank.receive(0, &output), refuse(NOT_THIS_KIND));
     assert_eq!(bank.finish(0, &mut output), done(0));
     assert_eq!(value_at(&mut bank, 0x100), 0x09);
 
     for byte in 1..=3 {
         assert_eq!(bank.receive(byte, &output), done(0));
     }
-    assert_eq!(bank.receive(4, &output), refuse(11));
-    assert_eq!(bank.send(&output), refuse(10));
+    assert_eq!(bank.receive(4, &output), refuse(LENGTH_REACHED));
+    assert_eq!(bank.send(&output), refuse(NOT_THIS_KIND));
     assert_eq!(output, [UNTOUCHED; 3]);
     assert_eq!(bank.finish(0, &mut output), done(0));
     assert_eq!(output, [0x0102_0300, UNTOUCHED, UNTOUCHED]);
@@ -112,14 +112,13 @@ fn a_worked_burst() {
     assert_eq!(bank.finish(0, &mut output), done(0));
     assert_eq!(output, [0x0102_0300, 0x0506_0708, UNTOUCHED]);
     assert_eq!(value_at(&mut bank, 0x100), 0x89);
-    assert_eq!(bank.finish(0, &mut output), refuse(7));
+    assert_eq!(bank.finish(0, &mut output), refuse(NO_TRANSFER));
 
-    // 02: "queue no receipt", "use no sync"; nothing else moved.
+    // No receipt, no sync, nothing in the queues.
     assert_eq!(bank, ready(&commands, &data));
 }
 
-/// 02: "the last finish ... closes it"; the next trigger begins at the first
-/// command and the first data word.
+/// After the last finish a trigger begins at the first command and the first data word.
 #[test]
 fn bursts_one_after_another() {
     let mut bank = ready(&[READ | length(1), WRITE | length(1)], &[0x7700_0000]);
@@ -134,18 +133,17 @@ fn bursts_one_after_another() {
     }
 }
 
-/// 02: "Only private commands of length at most 4 are carried"; each direction,
-/// length and count of bytes.
+/// Each direction, length and count of bytes that a burst can have.
 #[test]
 fn lengths_0_to_4() {
     let padded = [0, 0xa000_0000, 0xa0a1_0000, 0xa0a1_a200, 0xa0a1_a2a3];
     for commanded in 0..=4 {
         let mut bank = triggered(&[WRITE | length(commanded)], &[0x0102_0304], &[]);
         for byte in 1..=commanded {
-            assert_eq!(bank.finish(0, &mut []), refuse(14));
+            assert_eq!(bank.finish(0, &mut []), refuse(ENDING_NOT_ALLOWED));
             assert_eq!(bank.send(&[]), done(byte));
         }
-        assert_eq!(bank.send(&[]), refuse(11));
+        assert_eq!(bank.send(&[]), refuse(LENGTH_REACHED));
         assert_eq!(bank.finish(0, &mut []), done(0));
 
         for moved in 0..=commanded {
@@ -155,7 +153,7 @@ fn lengths_0_to_4() {
                 assert_eq!(bank.receive(0xa0 + byte as u8, &output), done(0));
             }
             if moved == commanded {
-                assert_eq!(bank.receive(0, &output), refuse(11));
+                assert_eq!(bank.receive(0, &output), refuse(LENGTH_REACHED));
             }
             assert_eq!(bank.finish(0, &mut output), done(0));
             assert_eq!(output, [padded[moved as usize]]);
@@ -163,7 +161,7 @@ fn lengths_0_to_4() {
     }
 }
 
-/// 02: "a burst over the first `offload length` words".
+/// From one command to fifteen; the output must have a word for each read.
 #[test]
 fn each_length_of_a_burst() {
     for count in 1..=15 {
@@ -173,7 +171,7 @@ fn each_length_of_a_burst() {
         let mut bank = ready(&commands, &[]);
         assert_eq!(bank.write(0x100, burst_ops(count)), done(0));
         let mut output = [UNTOUCHED; 16];
-        assert_refused(&mut bank, &Call::Trigger, &mut output[..count - 1], 13);
+        assert_refused(&mut bank, &Call::Trigger, &mut output[..count - 1], NO_ROOM);
         assert_eq!(bank.trigger(&output), done(0));
         for n in 0..count {
             assert_eq!(bank.receive(n as u8, &output), done(0));
@@ -224,8 +222,7 @@ fn a_write_without_bytes_has_its_data_word() {
 
 // Refusals.
 
-/// 02: "5 and 6 as for start, then 8 when mode is 0, 28 length field 0, 29 a command
-/// not carried, 13 output shorter than the reads".
+/// Each refusal while those behind it would hold too.
 #[test]
 fn trigger_order() {
     let trigger = &Call::Trigger;
@@ -233,7 +230,7 @@ fn trigger_order() {
     // In reset all the later conditions hold too.
     let mut bank = fresh();
     bank.write(0x2c0, CCC);
-    assert_refused(&mut bank, trigger, none, 5);
+    assert_refused(&mut bank, trigger, none, HELD_IN_RESET);
     // A direct transfer is open; the output is not looked at.
     let mut bank = with_device();
     bank.write(0x2c0, CCC);
@@ -241,28 +238,28 @@ fn trigger_order() {
     started(&mut bank, &[PRIVATE_WRITE_2]);
     for ops in [0, burst_ops(0), burst_ops(1), burst_ops(2)] {
         bank.write(0x100, ops);
-        assert_refused(&mut bank, trigger, none, 6);
+        assert_refused(&mut bank, trigger, none, TRANSFER_OPEN);
     }
     assert_eq!(bank.finish(6, none), done(0x0060_0000));
     // Mode 0, whatever the length field says.
     for ops in [0, 2, 4, 0x7e] {
         bank.write(0x100, ops);
-        assert_refused(&mut bank, trigger, none, 8);
+        assert_refused(&mut bank, trigger, none, NOT_IN_THIS_MODE);
     }
     bank.write(0x100, 0x61);
-    assert_refused(&mut bank, trigger, none, 28);
+    assert_refused(&mut bank, trigger, none, BURST_HAS_NO_COMMANDS);
     // Not carried, the output too short as well.
     for count in 1..=2 {
         bank.write(0x100, burst_ops(count));
-        assert_refused(&mut bank, trigger, none, 29);
+        assert_refused(&mut bank, trigger, none, NOT_CARRIED);
     }
     bank.write(0x2c0, READ);
-    assert_refused(&mut bank, trigger, none, 13);
-    assert_refused(&mut bank, trigger, &mut [UNTOUCHED], 13);
+    assert_refused(&mut bank, trigger, none, NO_ROOM);
+    assert_refused(&mut bank, trigger, &mut [UNTOUCHED], NO_ROOM);
     assert_eq!(bank.trigger(&[UNTOUCHED; 2]), done(0));
 }
 
-/// 02: "Only private commands of length at most 4 are carried."
+/// A CCC or a longer length, at each place of the burst.
 #[test]
 fn commands_not_carried() {
     for word in [
@@ -276,7 +273,7 @@ fn commands_not_carried() {
             let mut commands = [WRITE; 3];
             commands[place] = word;
             let mut bank = ready(&commands, &[]);
-            assert_refused(&mut bank, &Call::Trigger, &mut [], 29);
+            assert_refused(&mut bank, &Call::Trigger, &mut [], NOT_CARRIED);
         }
     }
     // Unnamed bits, the header and Sr are no bar.
@@ -284,16 +281,16 @@ fn commands_not_carried() {
     assert_eq!(bank.trigger(&[]), done(0));
 }
 
-/// 02: 13 "at each event in an open burst too, after 18", the trigger too; the
-/// burst's reads count whole, also those that have finished.
+/// With too short an output no event works, the trigger included; reads that have finished
+/// still count. `OUT_OF_RANGE` goes before that.
 #[test]
 fn each_event_wants_the_output() {
     let mut output = [UNTOUCHED; 2];
     let mut bank = triggered(&[READ, WRITE | length(1), READ | length(1)], &[], &output);
     for _ in 0..3 {
         for event in all_events() {
-            assert_refused(&mut bank, &event, &mut output[..1], 13);
-            assert_refused(&mut bank, &event, &mut [], 13);
+            assert_refused(&mut bank, &event, &mut output[..1], NO_ROOM);
+            assert_refused(&mut bank, &event, &mut [], NO_ROOM);
         }
         let out_of_range = [
             Call::Finish { code: 16 },
@@ -303,7 +300,7 @@ fn each_event_wants_the_output() {
             },
         ];
         for event in out_of_range {
-            assert_refused(&mut bank, &event, &mut [], 18);
+            assert_refused(&mut bank, &event, &mut [], OUT_OF_RANGE);
         }
         // Accesses have no output.
         assert_eq!(bank.read(0x0), done(0x100));
@@ -312,8 +309,8 @@ fn each_event_wants_the_output() {
         assert_eq!(bank.finish(0, &mut output), done(0));
     }
     // No burst is open any more.
-    assert_eq!(bank.finish(0, &mut []), refuse(7));
-    assert_eq!(bank.interrupt_request(8, 0, &[]), refuse(16));
+    assert_eq!(bank.finish(0, &mut []), refuse(NO_TRANSFER));
+    assert_eq!(bank.interrupt_request(8, 0, &[]), refuse(NOT_HEARD));
 }
 
 /// Events in an open burst with enough output, by 01's lists.
@@ -325,15 +322,15 @@ fn refused_events_in_a_burst() {
     bank.write(0xdc, 0x1000_0000);
     bank.write(0xd4, PRIVATE_WRITE_2);
     let refused = [
-        (Call::Start, 6),
-        (Call::Trigger, 6),
-        (all_events()[4], 6),
-        (all_events()[5], 10),
-        (Call::AddressTake, 10),
-        (Call::Send, 10),
-        (Call::Finish { code: 1 }, 14),
-        (Call::Finish { code: 4 }, 14),
-        (Call::Finish { code: 8 }, 14),
+        (Call::Start, TRANSFER_OPEN),
+        (Call::Trigger, TRANSFER_OPEN),
+        (all_events()[4], TRANSFER_OPEN),
+        (all_events()[5], NOT_THIS_KIND),
+        (Call::AddressTake, NOT_THIS_KIND),
+        (Call::Send, NOT_THIS_KIND),
+        (Call::Finish { code: 1 }, ENDING_NOT_ALLOWED),
+        (Call::Finish { code: 4 }, ENDING_NOT_ALLOWED),
+        (Call::Finish { code: 8 }, ENDING_NOT_ALLOWED),
     ];
     for (event, number) in refused {
         assert_refused(&mut bank, &event, &mut output, number);
@@ -341,18 +338,18 @@ fn refused_events_in_a_burst() {
     assert_eq!(bank.finish(6, &mut output), done(0));
     // Device 9 is not attached.
     for (event, number) in [
-        (Call::Send, 20),
-        (Call::Receive { byte: 0 }, 20),
-        (Call::Finish { code: 0 }, 14),
-        (Call::Finish { code: 6 }, 14),
+        (Call::Send, NOT_ATTACHED),
+        (Call::Receive { byte: 0 }, NOT_ATTACHED),
+        (Call::Finish { code: 0 }, ENDING_NOT_ALLOWED),
+        (Call::Finish { code: 6 }, ENDING_NOT_ALLOWED),
     ] {
         assert_refused(&mut bank, &event, &mut output, number);
     }
     assert_eq!(bank.finish(8, &mut output), done(0));
-    assert_eq!(bank.start(&output), refuse(8));
+    assert_eq!(bank.start(&output), refuse(NOT_IN_THIS_MODE));
 }
 
-/// 02: "writes to OPS and both offload memories are dropped whole (6, after 4)".
+/// OPS and the offload memories refuse every write in a burst, and no other register does.
 #[test]
 fn locked_registers() {
     let mut bank = triggered(&[WRITE], &[], &[]);
@@ -362,16 +359,16 @@ fn locked_registers() {
             offset,
             value: u32::MAX,
         };
-        assert_refused(&mut bank, &write, &mut [], 6);
-        // 4 goes first; reads are free.
-        assert_eq!(bank.write(offset + 1, 0), refuse(4));
-        assert_eq!(bank.read(offset).number, 0);
+        assert_refused(&mut bank, &write, &mut [], TRANSFER_OPEN);
+        // `NO_REGISTER` goes first; reads are free.
+        assert_eq!(bank.write(offset + 1, 0), refuse(NO_REGISTER));
+        assert_eq!(bank.read(offset).number, DONE);
     }
     for offset in [0x2bc, 0x340] {
-        assert_eq!(bank.write(offset, 0), refuse(4));
+        assert_eq!(bank.write(offset, 0), refuse(NO_REGISTER));
     }
     // The other registers are as ever.
-    assert_eq!(bank.write(0x88, 0), refuse(2));
+    assert_eq!(bank.write(0x88, 0), refuse(DROPPED_READ_ONLY));
     for offset in [0x8, 0x40, 0x80, 0x84, 0xd4, 0xdc, 0x140, 0x180] {
         assert_eq!(bank.write(offset, 0), done(0));
     }
@@ -387,7 +384,7 @@ fn locked_registers() {
 
 // What a burst does along its way.
 
-/// 02: "an error code doesn't stop it". A read that got nothing has a word too.
+/// The burst goes on after each of them. A read that got nothing has a word too.
 #[test]
 fn error_codes_in_the_middle() {
     let commands = [
@@ -405,14 +402,14 @@ fn error_codes_in_the_middle() {
         assert_eq!(output[words..], [UNTOUCHED; 4][words..]);
     }
     assert_eq!(bank.receive(0xc0, &output), done(0));
-    // Bytes moved, so no 6.
-    assert_eq!(bank.finish(6, &mut output), refuse(14));
+    // Bytes moved, so that code 6 is none.
+    assert_eq!(bank.finish(6, &mut output), refuse(ENDING_NOT_ALLOWED));
     assert_eq!(bank.finish(0, &mut output), done(0));
     assert_eq!(output, [0, 0, 0, 0xc000_0000]);
     assert_eq!(value_at(&mut bank, 0x100) >> 7, 1);
 }
 
-/// 02: "or a reset closes it", without a word for the open read.
+/// A reset ends the burst without a word for the open read.
 #[test]
 fn reset_in_the_middle() {
     let commands = [READ | length(2), READ | length(2), WRITE];
@@ -426,11 +423,11 @@ fn reset_in_the_middle() {
     // Nothing is locked and no output is asked for.
     assert_eq!(value_at(&mut bank, 0x100), 0x87);
     assert_eq!(bank.write(0x100, burst_ops(1)), done(0));
-    assert_eq!(bank.finish(0, &mut []), refuse(5));
-    assert_eq!(bank.trigger(&[]), refuse(5));
+    assert_eq!(bank.finish(0, &mut []), refuse(HELD_IN_RESET));
+    assert_eq!(bank.trigger(&[]), refuse(HELD_IN_RESET));
     assert_eq!(bank.write(0x40, 0), done(0));
-    assert_eq!(bank.finish(0, &mut []), refuse(7));
-    assert_eq!(bank.trigger(&[]), refuse(13));
+    assert_eq!(bank.finish(0, &mut []), refuse(NO_TRANSFER));
+    assert_eq!(bank.trigger(&[]), refuse(NO_ROOM));
     // It begins anew, with no byte gathered.
     assert_eq!(bank.trigger(&output), done(0));
     assert_eq!(bank.receive(9, &output), done(0));
@@ -439,11 +436,10 @@ fn reset_in_the_middle() {
     // Writing 0 when released leaves an open burst.
     assert_eq!(bank.trigger(&output), done(0));
     assert_eq!(bank.write(0x40, 0), done(0));
-    assert_eq!(bank.trigger(&output), refuse(6));
+    assert_eq!(bank.trigger(&output), refuse(TRANSFER_OPEN));
 }
 
-/// 02: "each noting attachment then": DEV_CHAR between two transfers counts for the
-/// next one, within a transfer for none.
+/// A write to DEV_CHAR counts for the transfers that open after it, not for the open one.
 #[test]
 fn attachment_is_noted_as_each_transfer_opens() {
     let commands = [
@@ -459,12 +455,12 @@ fn attachment_is_noted_as_each_transfer_opens() {
     assert_eq!(bank.finish(0, &mut output), done(0));
     // The second one opened with that finish.
     bank.write(0x180, 0x1102);
-    assert_eq!(bank.receive(2, &output), refuse(20));
+    assert_eq!(bank.receive(2, &output), refuse(NOT_ATTACHED));
     assert_eq!(bank.finish(8, &mut output), done(0));
     // The third opened before device 9 was attached.
     bank.write(0x180, ATTACH_OTHER);
-    assert_eq!(bank.receive(3, &output), refuse(20));
-    assert_eq!(bank.finish(0, &mut output), refuse(14));
+    assert_eq!(bank.receive(3, &output), refuse(NOT_ATTACHED));
+    assert_eq!(bank.finish(0, &mut output), refuse(ENDING_NOT_ALLOWED));
     assert_eq!(bank.finish(8, &mut output), done(0));
     assert_eq!(bank.receive(4, &output), done(0));
     assert_eq!(bank.finish(0, &mut output), done(0));

@@ -44,8 +44,7 @@ fn the_worked_session() {
     assert_eq!(run(&trace(&[records_of(WORKED)])[..]), expected);
 }
 
-/// 02: "replays all sections of standard input in order on the session's bank": one
-/// bank for all of them.
+/// All sections have one bank, so that it makes no difference where they are cut.
 #[test]
 fn sections_in_order() {
     let records = records_of(WORKED);
@@ -62,13 +61,13 @@ fn whole_records(length: usize) -> usize {
     length.saturating_sub(22) / 12
 }
 
-/// 02: "It answers a wrong length when it meets it, after the records before".
+/// The records that are whole are done first.
 #[test]
 fn cut_at_each_byte() {
     let bytes = small_trace();
     let output = session_output(SMALL);
     for length in 0..bytes.len() {
-        let number = if length < 4 { 24 } else { 25 };
+        let number = if length < 4 { WRONG_MARK } else { WRONG_TABLE };
         let expected = first_lines(&output, whole_records(length)) + &fault(number);
         assert_eq!(run(&bytes[..length]), expected, "{length}");
     }
@@ -80,8 +79,8 @@ fn cut_at_each_byte() {
 fn a_table_cut_short() {
     let bytes = trace(&[vec![], vec![]]);
     for length in 4..bytes.len() {
-        assert_eq!(run(&bytes[..length]), fault(25), "{length}");
-        assert_eq!(check(&bytes[..length]), 25, "{length}");
+        assert_eq!(run(&bytes[..length]), fault(WRONG_TABLE), "{length}");
+        assert_eq!(check(&bytes[..length]), WRONG_TABLE, "{length}");
     }
     assert_eq!(run(&bytes[..]), "");
 }
@@ -93,21 +92,27 @@ fn a_wrong_record_cut_short() {
     bytes[70..].fill(0xff);
     let expected = first_lines(&session_output(SMALL), 4);
     for length in 70..82 {
-        assert_eq!(run(&bytes[..length]), expected.clone() + &fault(25));
+        assert_eq!(
+            run(&bytes[..length]),
+            expected.clone() + &fault(WRONG_TABLE)
+        );
     }
-    assert_eq!(run(&bytes[..]), expected + &fault(27));
+    assert_eq!(run(&bytes[..]), expected + &fault(WRONG_RECORD));
 }
 
 #[test]
 fn bytes_after_the_last_record() {
     let mut bytes = small_trace();
-    let expected = session_output(SMALL) + &fault(25);
+    let expected = session_output(SMALL) + &fault(WRONG_TABLE);
     for _ in 0..30 {
         bytes.push(b'R');
         assert_eq!(run(&bytes[..]), expected);
     }
     assert_eq!(run(b"I3TR\x01\0\x0e\0\0\0\0\0\0\0".as_slice()), "");
-    assert_eq!(run(b"I3TR\x01\0\x0e\0\0\0\0\0\0\0\0".as_slice()), fault(25));
+    assert_eq!(
+        run(b"I3TR\x01\0\x0e\0\0\0\0\0\0\0\0".as_slice()),
+        fault(WRONG_TABLE)
+    );
 }
 
 /// Wrong starts and counts of sections are met before the first record; wrong counts of
@@ -120,7 +125,7 @@ fn each_header_byte_changed() {
         for change in 1..=255 {
             let mut changed = bytes.clone();
             changed[place] ^= change;
-            let expected = fault(if place < 4 { 24 } else { 25 });
+            let expected = fault(if place < 4 { WRONG_MARK } else { WRONG_TABLE });
             assert_eq!(run(&changed[..]), expected, "{place} {change}");
         }
     }
@@ -147,7 +152,7 @@ fn another_last_count() {
             true => 0,
             false => 2 + count.min(3) as usize,
         };
-        let expected = first_lines(&output, done) + &fault(25);
+        let expected = first_lines(&output, done) + &fault(WRONG_TABLE);
         assert_eq!(run(&changed[..]), expected, "{count}");
     }
 }
@@ -158,18 +163,18 @@ fn sums_above_32_bits_at_once() {
     for counts in [[third + 1, 0], [1, third], [third, 1], [u32::MAX; 2]] {
         let mut bytes = head(&counts);
         bytes.extend(record(b'R', 0, 0, 0));
-        assert_eq!(run(&bytes[..]), fault(25), "{counts:?}");
+        assert_eq!(run(&bytes[..]), fault(WRONG_TABLE), "{counts:?}");
     }
-    assert_eq!(run(&head(&[u32::MAX; 64])[..]), fault(25));
+    assert_eq!(run(&head(&[u32::MAX; 64])[..]), fault(WRONG_TABLE));
 }
 
-/// 02: for 27 "one with value 0, and ends": what follows is not looked at.
+/// What follows is not looked at.
 #[test]
 fn a_wrong_record() {
     for place in 0..5 {
         let mut bytes = small_trace();
         bytes[22 + 12 * place + 1] = 1;
-        let expected = first_lines(&session_output(SMALL), place) + &fault(27);
+        let expected = first_lines(&session_output(SMALL), place) + &fault(WRONG_RECORD);
         assert_eq!(run(&bytes[..]), expected);
         bytes.extend([0; 5]);
         assert_eq!(run(&bytes[..]), expected);
@@ -203,14 +208,14 @@ fn as_the_session_over_batches() {
     let records = records_of(&session);
     let output = session_output(&session);
     assert!(records.len() > 7 * BATCH_RECORDS);
-    for number in ["00", "03", "12", "14", "19"] {
-        assert!(output.contains(&format!(" {number}\n")), "{number}");
+    for number in [DONE, EMPTY, SDO_EMPTY, ENDING_NOT_ALLOWED, WRONG_PARITY] {
+        assert!(output.contains(&format!(" {number:02}\n")), "{number}");
     }
     let sections: Vec<_> = records.chunks(999).map(<[Record]>::to_vec).collect();
     let bytes = trace(&sections);
     assert_eq!(run(&bytes[..]), output);
     assert_eq!(run(&bytes[..bytes.len() - 1]), {
-        first_lines(&output, records.len() - 1) + &fault(25)
+        first_lines(&output, records.len() - 1) + &fault(WRONG_TABLE)
     });
     for batches in 1..=2 {
         for count in [-1, 0, 1].map(|more| batches * BATCH_RECORDS as i64 + more) {
@@ -219,12 +224,12 @@ fn as_the_session_over_batches() {
             let expected = first_lines(&output, count);
             assert_eq!(run(&bytes[..]), expected);
             bytes.push(0);
-            assert_eq!(run(&bytes[..]), expected.clone() + &fault(25));
+            assert_eq!(run(&bytes[..]), expected.clone() + &fault(WRONG_TABLE));
             bytes.truncate(bytes.len() - 2);
             let before = first_lines(&output, count - 1);
-            assert_eq!(run(&bytes[..]), before.clone() + &fault(25));
+            assert_eq!(run(&bytes[..]), before.clone() + &fault(WRONG_TABLE));
             bytes.push(1);
-            assert_eq!(run(&bytes[..]), before + &fault(27));
+            assert_eq!(run(&bytes[..]), before + &fault(WRONG_RECORD));
         }
     }
 }
@@ -260,7 +265,10 @@ fn input_in_pieces() {
         };
         assert_eq!(run(pieces(&bytes[..])), output);
         let cut = &bytes[..14 + 12 * 3 + 5];
-        assert_eq!(run(pieces(cut)), first_lines(&output, 3) + &fault(25));
+        assert_eq!(
+            run(pieces(cut)),
+            first_lines(&output, 3) + &fault(WRONG_TABLE)
+        );
     }
 }
 
@@ -277,10 +285,10 @@ impl Read for Unreadable {
 fn a_failed_read_ends_the_input() {
     let bytes = small_trace();
     let output = session_output(SMALL);
-    assert_eq!(run(Unreadable), fault(24));
-    assert_eq!(run(bytes[..5].chain(Unreadable)), fault(25));
-    assert_eq!(run(bytes[..20].chain(Unreadable)), fault(25));
-    let expected = first_lines(&output, 2) + &fault(25);
+    assert_eq!(run(Unreadable), fault(WRONG_MARK));
+    assert_eq!(run(bytes[..5].chain(Unreadable)), fault(WRONG_TABLE));
+    assert_eq!(run(bytes[..20].chain(Unreadable)), fault(WRONG_TABLE));
+    let expected = first_lines(&output, 2) + &fault(WRONG_TABLE);
     assert_eq!(run(bytes[..50].chain(Unreadable)), expected);
     assert_eq!(run(bytes.chain(Unreadable)), output);
 }
@@ -289,10 +297,10 @@ fn a_failed_read_ends_the_input() {
 #[test]
 fn an_input_without_end() {
     let bytes = small_trace();
-    assert_eq!(run(io::repeat(0)), fault(24));
-    assert_eq!(run(bytes[..4].chain(io::repeat(0))), fault(25));
-    assert_eq!(run(bytes[..4].chain(io::repeat(255))), fault(25));
-    let expected = session_output(SMALL) + &fault(25);
+    assert_eq!(run(io::repeat(0)), fault(WRONG_MARK));
+    assert_eq!(run(bytes[..4].chain(io::repeat(0))), fault(WRONG_TABLE));
+    assert_eq!(run(bytes[..4].chain(io::repeat(255))), fault(WRONG_TABLE));
+    let expected = session_output(SMALL) + &fault(WRONG_TABLE);
     assert_eq!(run(bytes.chain(io::repeat(0))), expected);
 }
 
@@ -325,7 +333,8 @@ fn an_output_that_is_full() {
     assert!(run_replay(&bytes[..3], &mut Full { left: 11 }).is_err());
 }
 
-/// 02: "at once if the table asks for more than 16 MiB".
+/// A table that asks for too much is refused before the first record, whatever the file's
+/// length is.
 #[test]
 fn the_longest_files() {
     let right = record(b'S', 0, 0, 0);
@@ -341,12 +350,12 @@ fn the_longest_files() {
     assert!(output == line.repeat(most));
     // Exactly 16 MiB, with contents that ask for less, and for more.
     let output = run(&bytes([1, most - 2, 1], 16 << 20)[..]);
-    assert!(output == line.repeat(most) + &fault(25));
+    assert!(output == line.repeat(most) + &fault(WRONG_TABLE));
     let output = run(&bytes([1, most - 2, 2], 16 << 20)[..]);
-    assert_eq!(output, fault(25));
+    assert_eq!(output, fault(WRONG_TABLE));
     // Above 16 MiB, just as the contents say.
     let output = run(&bytes([1, most - 2, 2], (16 << 20) + 2)[..]);
-    assert_eq!(output, fault(25));
+    assert_eq!(output, fault(WRONG_TABLE));
 
     let mut bytes = head(&[most_records(1) as u32]);
     bytes.extend(right.repeat(most_records(1)));

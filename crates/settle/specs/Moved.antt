@@ -1,6 +1,0 @@
--- Levels and heads of five rings.
-use Rattle.bank.specs.Queues.{Queues, levelsOf, headsOf}
-use Rattle.settle.specs.declared.Moved.{Moved}
-
-abbrev pub movedTo : Queues → Moved
-movedTo q = record { levels = levelsOf q; heads = headsOf q }

@@ -1,0 +1,184 @@
+"""A C and C++ program that makes every call by the header's inline functions and by the archive."""
+
+from thymewax import Number
+
+DONE, WRONG_RECORD = Number.DONE, Number.WRONG_RECORD
+# Calls by inline functions, the numbers of their records, and the number of the answer: each
+# function is done once, so that a wrong letter or argument leaves something else. Each number that
+# is too large would be a good one if it were cut.
+CALLS = (
+    ('thymewax_start(&m)', 'S', 0, 0, 0, Number.HELD_IN_RESET),
+    ('thymewax_write(&m, THYMEWAX_REG_ENABLE, 0)', 'W', 0x040, 0, 0, DONE),
+    ('thymewax_write(&m, THYMEWAX_REG_IBI_CONFIG, 3)', 'W', 0x140, 3, 0, DONE),
+    ('thymewax_write(&m, THYMEWAX_REG_DEV_CHAR, 0x110e)', 'W', 0x180, 0x110e, 0, DONE),
+    ('thymewax_interrupt(&m, 0x108, 0x5a)', 'I', 0, 0x108, 0x5a, WRONG_RECORD),
+    ('thymewax_interrupt(&m, 8, 0x15a)', 'I', 0, 8, 0x15a, WRONG_RECORD),
+    ('thymewax_interrupt(&m, 8, 0x5a)', 'I', 0, 8, 0x5a, DONE),
+    ('thymewax_read(&m, 0x100e4)', 'R', 0x100e4, 0, 0, WRONG_RECORD),
+    ('thymewax_read(&m, THYMEWAX_REG_IBI_FIFO)', 'R', 0x0e4, 0, 0, DONE),
+    ('thymewax_write(&m, THYMEWAX_REG_SDO_FIFO, 0xa5c30000)', 'W', 0x0dc, 0xa5c30000, 0, DONE),
+    ('thymewax_write(&m, THYMEWAX_REG_CMD_FIFO, 0x210)', 'W', 0x0d4, 0x210, 0, DONE),
+    ('thymewax_start(&m)', 'S', 0, 0, 0, DONE),
+    ('thymewax_send(&m)', 'T', 0, 0, 0, DONE),
+    ('thymewax_send(&m)', 'T', 0, 0, 0, DONE),
+    ('thymewax_send(&m)', 'T', 0, 0, 0, Number.LENGTH_REACHED),
+    ('thymewax_finish(&m, 0)', 'F', 0, 0, 0, DONE),
+    ('thymewax_write(&m, THYMEWAX_REG_CMD_FIFO, 0x211)', 'W', 0x0d4, 0x211, 0, DONE),
+    ('thymewax_start(&m)', 'S', 0, 0, 0, DONE),
+    ('thymewax_finish(&m, 6)', 'F', 0, 6, 0, DONE),
+    ('thymewax_write(&m, THYMEWAX_REG_CMD_FIFO, 0x211)', 'W', 0x0d4, 0x211, 0, DONE),
+    ('thymewax_start(&m)', 'S', 0, 0, 0, DONE),
+    ('thymewax_receive(&m, 0x112)', 'X', 0, 0x112, 0, WRONG_RECORD),
+    ('thymewax_receive(&m, 0x12)', 'X', 0, 0x12, 0, DONE),
+    ('thymewax_receive(&m, 0xff)', 'X', 0, 0xff, 0, DONE),
+    ('thymewax_finish(&m, 256)', 'F', 0, 256, 0, WRONG_RECORD),
+    ('thymewax_finish(&m, 0)', 'F', 0, 0, 0, DONE),
+    ('thymewax_read(&m, THYMEWAX_REG_SDI_FIFO)', 'R', 0x0e0, 0, 0, DONE),
+    ('thymewax_write(&m, THYMEWAX_REG_CMD_FIFO, 0x400000)', 'W', 0x0d4, 0x400000, 0, DONE),
+    ('thymewax_write(&m, THYMEWAX_REG_CMD_FIFO, 7)', 'W', 0x0d4, 7, 0, DONE),
+    ('thymewax_start(&m)', 'S', 0, 0, 0, DONE),
+    ('thymewax_request(&m, 0x0123abcd, 0xef000102)', 'D', 0, 0x0123abcd, 0xef000102, DONE),
+    ('thymewax_write(&m, THYMEWAX_REG_SDO_FIFO, 0x11000000)', 'W', 0x0dc, 0x11000000, 0, DONE),
+    ('thymewax_take_address(&m)', 'A', 0, 0, 0, Number.WRONG_PARITY),
+    ('thymewax_write(&m, THYMEWAX_REG_SDO_FIFO, 0x10000000)', 'W', 0x0dc, 0x10000000, 0, DONE),
+    ('thymewax_take_address(&m)', 'A', 0, 0, 0, DONE),
+    ('thymewax_finish(&m, 0)', 'F', 0, 0, 0, DONE),
+    ('thymewax_write(&m, THYMEWAX_REG_OFFLOAD_CMD, 0x211)', 'W', 0x2c0, 0x211, 0, DONE),
+    ('thymewax_trigger(&m)', 'G', 0, 0, 0, Number.NOT_IN_THIS_MODE),
+    ('thymewax_write(&m, THYMEWAX_REG_OPS, 3)', 'W', 0x100, 3, 0, DONE),
+    ('thymewax_trigger(&m)', 'G', 0, 0, 0, DONE),
+    ('thymewax_receive(&m, 0x34)', 'X', 0, 0x34, 0, DONE),
+    ('thymewax_finish(&m, 0)', 'F', 0, 0, 0, DONE),
+    ('thymewax_write(&m, 0x10008, 7)', 'W', 0x10008, 7, 0, WRONG_RECORD),
+    ('thymewax_model_step(&m, 0x57, 0x008, 0x89abcdef, 0)', 'W', 0x008, 0x89abcdef, 0, DONE),
+    ('thymewax_model_step(&m, 0x57, 0x008, 1, 2)', 'W', 0x008, 1, 2, WRONG_RECORD),
+    ('thymewax_model_step(&m, 0, 0, 0, 0)', '\0', 0, 0, 0, WRONG_RECORD),
+)
+
+# A model by the inline functions beside one by the archive's. Five different capacities and
+# watermarks show a wrong order. The trace has three sections, of two records, of one, and of one with
+# a wrong one behind it. A refusal writes no lent word, and the inline functions give 0 then.
+PROGRAM = r'''
+#include <stdio.h>
+#include <stdlib.h>
+#include <string.h>
+#include "thymewax.h"
+
+static const uint32_t capacities[5] = {6, 5, 4, 7, 3}, watermarks[5] = {5, 4, 3, 2, 1};
+static const uint8_t trace[] = {
+    'I', '3', 'T', 'R', 3, 0, 30, 0, 0, 0, 2, 0, 0, 0, 54, 0, 0, 0, 1, 0, 0, 0, 66, 0, 0, 0, 2, 0, 0, 0,
+    'R', 0, 8, 0, 0, 0, 0, 0, 0, 0, 0, 0, 'R', 0, 6, 0, 0, 0, 0, 0, 0, 0, 0, 0,
+    'R', 0, 4, 0, 0, 0, 0, 0, 0, 0, 0, 0,
+    'R', 0, 4, 0, 0, 0, 0, 0, 0, 0, 0, 0, 'G', 0, 0, 0, 0, 0, 0, 0, 0, 0, 0, 0};
+static uint32_t image[200], store[25], output[1], m_store[25], m_output[1];
+static uint32_t old_image[200], old_store[25], old_output[1];
+static struct thymewax m;
+
+static void expect(const char *what, int holds)
+{
+    if (!holds) {
+        printf("differs: %s\n", what);
+        exit(1);
+    }
+}
+
+static int same(void)
+{
+    return memcmp(image, m.image, sizeof image) == 0 && memcmp(store, m_store, sizeof store) == 0
+        && memcmp(output, m_output, sizeof output) == 0;
+}
+
+static void keep(void)
+{
+    memcpy(old_image, image, sizeof image);
+    memcpy(old_store, store, sizeof store);
+    memcpy(old_output, output, sizeof output);
+}
+
+static int unchanged(void)
+{
+    return memcmp(image, old_image, sizeof image) == 0 && memcmp(store, old_store, sizeof store) == 0
+        && memcmp(output, old_output, sizeof output) == 0;
+}
+
+static void call(const char *what, struct thymewax_answer a, uint32_t letter, uint32_t offset,
+                 uint32_t first, uint32_t second, uint32_t number)
+{
+    keep();
+    uint64_t packed = thymewax_step(image, 200, store, 25, output, 1, letter, offset, first, second);
+    expect(what, a.value == (packed & 0xffffffffu) && a.number == packed >> 32);
+    expect(what, a.number == number && same());
+    expect(what, number == THYMEWAX_DONE || number == THYMEWAX_WRONG_PARITY
+                     || (a.value == 0 && unchanged()));
+}
+
+static void is_told(const char *what, int done, uint32_t given, uint32_t told)
+{
+    expect(what, done ? given == told : given == 0 && told == 9);
+}
+
+static uint32_t replay(size_t bytes, uint32_t section, size_t limit)
+{
+    uint32_t told[3] = {9, 9, 9}, place[2] = {9, 9};
+    struct thymewax_replayed r = thymewax_model_replay(&m, trace, bytes, section, limit);
+    struct thymewax_place p = thymewax_find_section(trace, bytes, section);
+    keep();
+    uint32_t number = thymewax_replay(image, 200, store, 25, trace, bytes, section, limit, told, 3);
+    int done = number == THYMEWAX_DONE || number == THYMEWAX_WRONG_RECORD;
+    expect("a replay's number", r.number == number);
+    expect("a replay's memory", same() && (done || unchanged()));
+    is_told("a replay's count", done, r.count, told[0]);
+    is_told("a replay's answer", done, r.last.value, told[1]);
+    is_told("a replay's answer", done, r.last.number, told[2]);
+    expect("a section's number", p.number == thymewax_section(trace, bytes, section, place, 2));
+    is_told("a section's place", p.number == THYMEWAX_DONE, p.first, place[0]);
+    is_told("a section's place", p.number == THYMEWAX_DONE, p.bytes, place[1]);
+    return number;
+}
+
+static void replays(void)
+{
+    const uint32_t none = THYMEWAX_NO_SUCH_SECTION, wrong = THYMEWAX_WRONG_RECORD, done = THYMEWAX_DONE;
+    for (uint32_t section = 0; section < 4; section++)
+        for (size_t limit = 0; limit < 3; limit++)
+            expect("the number of a replay", replay(sizeof trace, section, limit)
+                       == (section == 3 ? none : section == 2 && limit == 2 ? wrong : done));
+    expect("a mark cut off", replay(3, 0, 9) == THYMEWAX_WRONG_MARK);
+    expect("a file cut off", replay(sizeof trace - 1, 0, 9) == THYMEWAX_WRONG_TABLE);
+}
+
+int main(void)
+{
+    expect("image words", thymewax_image_words() == THYMEWAX_IMAGE_WORDS);
+    expect("store words", thymewax_store_words(capacities) == 25);
+    memset(&m, 0xff, sizeof m);
+    expect("set-up", thymewax_model_set_up(&m, capacities, watermarks, 90, m_store, 25) == THYMEWAX_DONE);
+    expect("set-up", thymewax_set_up(image, 200, 6, 5, 4, 7, 3, 5, 4, 3, 2, 1, 90) == THYMEWAX_DONE
+                         && same());
+    expect("an ID too large", thymewax_model_set_up(&m, capacities, watermarks, 256, m_store, 25)
+                                  == THYMEWAX_SET_UP_OUT_OF_RANGE);
+    expect("a call after that", thymewax_read(&m, 0).number == THYMEWAX_NOT_WELL_FORMED);
+    expect("set-up again", thymewax_model_set_up(&m, capacities, watermarks, 90, m_store, 25)
+                               == THYMEWAX_DONE && same());
+    expect("store", m.store == m_store && m.store_words == 25);
+    expect("output", m.output == NULL && m.output_words == 0);
+    m.output = m_output;
+    m.output_words = 1;
+CALLS
+    replays();
+    m.image[0] = image[0] = 5000;
+    replays();
+    expect("a damaged bank", thymewax_model_replay(&m, trace, sizeof trace, 0, 9).number == THYMEWAX_DONE);
+    expect("a damaged bank", thymewax_model_replay(&m, trace, sizeof trace, 0, 9).count == 2);
+    expect("a damaged bank", thymewax_model_replay(&m, trace, sizeof trace, 0, 9).last.number
+                                 == THYMEWAX_NOT_WELL_FORMED);
+    return 0;
+}
+'''
+
+
+def program():
+    """The program that makes all calls."""
+    rows = ['    call("%s", %s, %d, %d, %du, %du, %d);' % (made, made, ord(letter), *numbers)
+            for made, letter, *numbers in CALLS]
+    return PROGRAM.replace('CALLS', '\n'.join(rows))

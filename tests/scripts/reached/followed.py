@@ -1,0 +1,73 @@
+"""A bank that is followed by the answers to a script: its queues, and what is counted of it."""
+
+from collections import deque
+
+from thymewax import Irq, Number
+
+from tests.scripts.bank import QUEUES, SESSION_CAPACITIES, Bank
+from tests.scripts.reached.situations import ALL_ORDERS, IDLE, IN_RESET, TRANSFER_OPEN
+
+DONE = Number.DONE
+CMDR_PENDING, IBI_PENDING, DAA_PENDING = map(
+    int, (Irq.CMDR_PENDING, Irq.IBI_PENDING, Irq.DAA_PENDING))
+# What `last_closed` tells.
+DIRECT, BURST = 'direct transfer', 'burst'
+
+
+class Followed(Bank):
+    """The state. `source` is what is left of the last read of IRQ_SOURCE, `written` has the words
+    of the output that bursts have filled since it was lent."""
+
+    def __init__(self, counts):
+        super().__init__()
+        self.counts = counts
+        self.lent = 0
+        self.written = set()
+        self.new_bank(SESSION_CAPACITIES)
+
+    def new_bank(self, capacities):
+        Bank.__init__(self)
+        self.capacities = capacities
+        self.config = 0
+        self.source = 0
+        self.refused = False
+        self.last_closed = None
+        self.clear()
+
+    def clear(self):
+        """What a reset does to it."""
+        self.cmd = deque()
+        self.pushed = [0] * len(QUEUES)
+        self.taken = [0] * len(QUEUES)
+        self.receipts = self.interrupts = 0
+        self.transfer = None
+        self.request_refused = False
+
+    def level(self, queue):
+        return self.pushed[queue] - self.taken[queue]
+
+    def room(self, queue):
+        return self.capacities[queue] - self.level(queue)
+
+    def push(self, queue):
+        self.pushed[queue] += 1
+        size = self.capacities[queue]
+        if self.level(queue) == size:
+            self.note('%s full with head at %d' % (QUEUES[queue], self.taken[queue] % size))
+            self.note('%s of %d full' % (QUEUES[queue], size))
+        if self.pushed[queue] > size:
+            self.note('%s of %d wrapped' % (QUEUES[queue], size))
+
+    def phase(self):
+        if self.held:
+            return IN_RESET
+        return TRANSFER_OPEN if self.transfer else IDLE
+
+    def note(self, situation):
+        self.counts.situations[situation] += 1
+
+    def note_order(self, letter, number, later):
+        """`later` has each number whose condition holds too."""
+        for other, holds in later.items():
+            if holds and (letter, number, other) in ALL_ORDERS:
+                self.note('%s: %d before %d' % (letter, number, other))

@@ -1,0 +1,151 @@
+"""The situations that scripts must reach, by the names under which they are counted."""
+
+from thymewax import Irq, Number
+from thymewax.calls import TRIGGER
+
+from tests.scripts.bank import (BURST_LENGTH, CARRIED_LENGTH, LEAST_CAPACITIES, OUTPUT_WORDS,
+                                QUEUES, SESSION_CAPACITIES, TEST_CAPACITIES)
+from tests.scripts.endings import CE2, ENDINGS, NACK, NO_ERROR, UNKNOWN
+from tests.scripts.reached.possible import EVENTS
+
+
+def orders(letter, *names):
+    """Pairs of numbers, one before the other, as orders of a letter."""
+    return tuple((letter, *(Number[name] for name in pair.split(' before '))) for pair in names)
+
+
+# Calls in which two conditions hold at once, so that the order decides (`answer.order`). Not in the
+# list: orders that a row of another table shows (2 before 5 in the accesses, 18 in the situations,
+# 5 before 7 in each event in reset), pairs that cannot hold at once (1 and 5, as the levels are 0
+# in reset; 9 and 15), and 7, after which the conditions speak of a transfer that is not there.
+ORDERS = (
+    *orders('S', 'TRANSFER_OPEN before NOT_IN_THIS_MODE', 'TRANSFER_OPEN before NO_COMMAND',
+            'NOT_IN_THIS_MODE before NO_COMMAND'),
+    *orders('T', 'NOT_ATTACHED before NOT_THIS_KIND', 'NOT_THIS_KIND before LENGTH_REACHED',
+            'LENGTH_REACHED before SDO_EMPTY'),
+    *orders('X', 'NOT_ATTACHED before NOT_THIS_KIND', 'NOT_THIS_KIND before LENGTH_REACHED',
+            'LENGTH_REACHED before NO_ROOM'),
+    *orders('F', 'ENDING_NOT_ALLOWED before NO_ROOM'),
+    *orders('I', 'TRANSFER_OPEN before NOT_HEARD', 'NOT_HEARD before NOT_ACKNOWLEDGED',
+            'NOT_HEARD before NO_ROOM', 'NOT_ACKNOWLEDGED before NO_ROOM'),
+    *orders('D', 'NOT_THIS_KIND before NO_ROOM'),
+    *orders('A', 'NOT_THIS_KIND before SDO_EMPTY'),
+)
+# The same in an open burst whose output is too short, so that 13 is given or 18 goes before it.
+SHORT_ORDERS = (
+    *orders('S', 'NO_ROOM before TRANSFER_OPEN'),
+    *orders(TRIGGER, 'NO_ROOM before TRANSFER_OPEN'),
+    *orders('I', 'NO_ROOM before TRANSFER_OPEN'),
+    *orders('T', 'NO_ROOM before NOT_ATTACHED', 'NO_ROOM before NOT_THIS_KIND',
+            'NO_ROOM before LENGTH_REACHED'),
+    *orders('X', 'NO_ROOM before NOT_ATTACHED', 'NO_ROOM before NOT_THIS_KIND',
+            'NO_ROOM before LENGTH_REACHED'),
+    *orders('F', 'NO_ROOM before ENDING_NOT_ALLOWED'),
+    *orders('D', 'NO_ROOM before NOT_THIS_KIND'),
+    *orders('A', 'NO_ROOM before NOT_THIS_KIND'),
+    *orders('F', 'OUT_OF_RANGE before NO_ROOM'),
+    *orders('I', 'OUT_OF_RANGE before NO_ROOM'),
+)
+TRIGGER_ORDERS = orders(
+    TRIGGER, 'HELD_IN_RESET before NOT_IN_THIS_MODE',
+    'HELD_IN_RESET before BURST_HAS_NO_COMMANDS', 'HELD_IN_RESET before NOT_CARRIED',
+    'TRANSFER_OPEN before NOT_IN_THIS_MODE', 'TRANSFER_OPEN before BURST_HAS_NO_COMMANDS',
+    'TRANSFER_OPEN before NOT_CARRIED', 'TRANSFER_OPEN before NO_ROOM',
+    'NOT_IN_THIS_MODE before BURST_HAS_NO_COMMANDS', 'NOT_IN_THIS_MODE before NOT_CARRIED',
+    'NOT_IN_THIS_MODE before NO_ROOM', 'NOT_CARRIED before NO_ROOM')
+ALL_ORDERS = {*ORDERS, *SHORT_ORDERS, *TRIGGER_ORDERS}
+
+BITS = range(8)
+PENDING_BITS = [bit.bit_length() - 1
+                for bit in (Irq.CMDR_PENDING, Irq.IBI_PENDING, Irq.DAA_PENDING)]
+PHASES = IN_RESET, IDLE, TRANSFER_OPEN = 'in reset', 'idle', 'transfer open'
+
+SESSION_SITUATIONS = (
+    ['%s full with head at %d' % (queue, head)
+     for queue, size in zip(QUEUES, SESSION_CAPACITIES) for head in range(size)]
+    + ['reset during ' + kind for kind in ENDINGS]
+    + ['reset with bytes gathered', 'reset with bytes left', 'reset with a request open',
+       'reset in reset', 'release when released, transfer open']
+    + ['interrupt during ' + kind for kind in ENDINGS]
+    + ['interrupt above 127, ' + phase for phase in PHASES]
+    + ['finish code above 15, ' + phase for phase in PHASES]
+    + ['interrupt not heard, enable 0', 'interrupt not heard, enable 1',
+       'interrupt not acknowledged, enable 0', 'interrupt not acknowledged, not attached',
+       'interrupt not acknowledged, may not interrupt', 'interrupt, IBI full',
+       'interrupt stored with its byte', 'interrupt stored with 0',
+       'interrupt stored in offload mode']
+    + ['receipt number above 256', 'interrupt number above 256', 'write of 4,095 bytes',
+       'read of 4,095 bytes']
+    + ['wrong parity, SDO then empty', 'wrong parity, SDO not empty',
+       'address request, SDO empty', 'address request, SDO not empty',
+       'address request, SDI room 1', 'address request, SDI room 0',
+       'address request while one is open', 'address take with none open',
+       'address take, SDO empty', 'address taken',
+       'ENTDAA ended with 4 after a refused request']
+    + ['no whole command, CMD empty', 'no whole command, CCC word alone']
+    + ['ENTDAA with length above 0', 'ENTDAA with the read bit', 'direct CCC with code 0x87']
+    + ['byte moved, device detached since start', 'byte refused, device attached since start']
+    + ['finish, no room in CMDR', 'finish, no room in SDI for a part word',
+       'finish, no room in both', 'finish, part word pushed', 'finish, bytes left dropped',
+       'finish, data stays in SDO', 'finish in offload mode']
+    + ['length reached at 0', 'length reached after bytes', 'SDO empty at the first byte',
+       'SDO empty at a later word', 'no room at the fourth byte']
+    + ['%s: %d before %d' % order for order in ORDERS]
+    + ['source bit %d read as %d' % (bit, value) for bit in BITS for value in (0, 1)]
+    + ['pending bit %d read as 1' % bit for bit in BITS]
+    + ['bit %d cleared by a write' % bit for bit in PENDING_BITS]
+)
+
+# What each of the 128 device addresses must have been used for.
+ADDRESS_USES = COMMAND_TO, INTERRUPT_FROM = 'command to', 'interrupt from'
+
+# Situations that a script with set-ups must reach.
+SET_UP_SITUATIONS = (
+    ['%s of %d %s' % (queue, size, state) for state in ('full', 'wrapped')
+     for queue, least in zip(QUEUES, LEAST_CAPACITIES) for size in TEST_CAPACITIES if size >= least]
+    + ['%s watermark %s' % (queue, end) for queue in QUEUES for end in ('0', 'capacity')]
+    + ['ID 0', 'ID 255']
+    + ['%s capacity below its least refused' % queue for queue in QUEUES]
+    + ['%s capacity above 1,024 refused' % queue for queue in QUEUES]
+    + ['%s watermark above the capacity refused' % queue for queue in QUEUES]
+    + ['ID above 255 refused']
+    + ['set-up during a transfer', 'receipt number above 256', 'interrupt number above 256']
+)
+
+LENGTHS = range(CARRIED_LENGTH + 1)
+BURST_CODES = (NO_ERROR, CE2, NACK, UNKNOWN)
+# Situations of bursts, for the same scripts.
+BURST_SITUATIONS = (
+    ['burst of %d commands finished' % count for count in range(1, BURST_LENGTH + 1)]
+    + ['burst, write of %d, all sent' % length for length in LENGTHS]
+    + ['burst, read of %d, %d received' % (length, moved)
+       for length in LENGTHS for moved in range(length + 1)]
+    + ['burst, bytes of data word %d' % place for place in range(BURST_LENGTH)]
+    + ['burst, data word and command at different places',
+       'burst, data word passed over by a write without bytes',
+       'burst, last command not carried past the length']
+    + ['burst, code %d and on' % code for code in BURST_CODES]
+    + ['burst, code %d and closed' % code for code in BURST_CODES]
+    + ['%s: 13 in a burst' % letter for letter in EVENTS]
+    + ['%s: %d before %d' % order for order in SHORT_ORDERS + TRIGGER_ORDERS]
+    + ['write: 4 before 6']
+    + ['trigger, output too short by one', 'trigger, output fits', 'trigger, output longer',
+       'trigger, no reads and no output', 'trigger, not carried at the first place',
+       'trigger, not carried at the last place', 'trigger, CCC not carried',
+       'trigger, length above 4 not carried', 'trigger, length with low bits up to 4 not carried']
+    + ['output changed in a burst, too short', 'output changed in a burst, long enough']
+    + ['reset in a burst', 'reset in a burst, bytes received', 'reset in a burst, bytes sent',
+       'set-up in a burst', 'OPS read in a burst', 'release when released, burst open']
+    + ['burst, attached since the trigger', 'burst, detached since the trigger',
+       'burst, byte moved, device detached since it opened',
+       'burst, byte refused, device attached since it opened']
+    + ['burst after a direct transfer', 'direct transfer after a burst']
+    + ['burst finish, CMDR full', 'burst finish, SDI full', 'burst byte sent, SDO not empty',
+       'burst byte sent, SDO empty', 'burst, fourth byte received, SDI full']
+    + ['output word %d shown, written' % place for place in range(BURST_LENGTH)]
+    + ['output word %d shown, not written' % place for place in range(OUTPUT_WORDS)]
+)
+
+
+def situations(test):
+    return SET_UP_SITUATIONS + BURST_SITUATIONS if test else SESSION_SITUATIONS

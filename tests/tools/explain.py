@@ -1,0 +1,295 @@
+#!/usr/bin/env python3
+"""tools/explain: its words, its counts, its ledger of commands, the first difference it finds.
+
+    explain.py [SESSION]
+
+With SESSION, a session program, the answers of the log are also held to what that prints. Needs the
+shared library. Exit status 0 only if all is as expected.
+"""
+
+import pathlib
+import re
+import sys
+import tempfile
+from collections import Counter
+
+sys.path.insert(0, str(pathlib.Path(__file__).resolve().parents[2]))
+
+from tests import ROOT
+from tests.scripts.source import Source
+from tests.shared.packing import pack
+from tests.shared.trial import equal, generated, main, run, tool
+from thymewax import MEANINGS, Model, Number, session
+
+sys.path.insert(0, str(ROOT / 'tools'))
+import inputs
+from ledger import Ledger
+
+SEEDS = (1, 2, 3)
+CALLS = 5000
+PLACES = 6
+
+
+def telling(how):
+    """What is told of a call with a number that is not 0, and why where that is told."""
+    def tell(number, why=''):
+        return '%s: %d, %s%s' % (how, number, MEANINGS[number], ' (%s)' % why if why else '')
+    return tell
+
+
+refused, dropped, taken = map(telling, ('refused', 'dropped', 'taken'))
+# Lines and what is told of each: the words behind the answer, then the reason, if there is one.
+TOLD = [
+    ('W 40 0', 'write ENABLE: release'),
+    ('W 180 1102', 'write DEV_CHAR: device 08, attached'),
+    ('R 180', 'read DEV_CHAR: device 08, attached'),
+    ('W 180 1000', 'write DEV_CHAR: select device 08'),
+    ('W 008 2a', 'write SCRATCH: 0000002a'),
+    ('W 080 a1', 'write IRQ_MASK: show CMD_ALMOST_EMPTY, CMDR_PENDING, DAA_PENDING'),
+    ('R 088', 'read IRQ_SOURCE: CMD_ALMOST_EMPTY, SDO_ALMOST_EMPTY'),
+    ('R 084', 'read IRQ_PENDING: CMD_ALMOST_EMPTY'),
+    ('R 0e8', 'read FIFO_STATUS: CMDR_EMPTY, IBI_EMPTY, SDI_EMPTY'),
+    ('W 0dc a1b2c300', 'write SDO_FIFO: bytes a1 b2 c3 00'),
+    ('W 0d4 00300310', 'write CMD_FIFO: private write to 08, 3 bytes, broadcast header, '
+     'repeated start'),
+    ('S', 'start: private write to 08, 3 bytes, broadcast header, repeated start (call 11)'),
+    ('S', 'start', refused(Number.TRANSFER_OPEN, 'private write, 0 of 3 bytes moved')),
+    ('T', 'send: a1, byte 1 of 3'),
+    ('X 1', 'receive 01', refused(Number.NOT_THIS_KIND, 'private write, 1 of 3 bytes moved')),
+    ('F 0', 'finish with no error',
+     refused(Number.ENDING_NOT_ALLOWED, 'private write, 1 of 3 bytes moved')),
+    ('T', 'send: b2, byte 2 of 3'),
+    ('T', 'send: c3, byte 3 of 3'),
+    ('T', 'send', refused(Number.LENGTH_REACHED, 'private write, 3 of 3 bytes moved')),
+    ('F 0', 'finish with no error: receipt no error, 3 bytes moved, sync 0; private write to 08, '
+     '3 bytes, broadcast header, repeated start (call 11)'),
+    ('R 0d8', 'read CMDR_FIFO: no error, 3 bytes moved, sync 0; private write to 08, 3 bytes, '
+     'broadcast header, repeated start (call 11)'),
+    ('R 0d8', 'read CMDR_FIFO', refused(Number.EMPTY)),
+    ('S', 'start', refused(Number.NO_COMMAND, 'CMD has 0 of 4 words')),
+    ('W 0d4 00000113', 'write CMD_FIFO: private read from 09, 1 byte'),
+    ('S', 'start: private read from 09, 1 byte (call 24)'),
+    ('X 5', 'receive 05', refused(Number.NOT_ATTACHED, 'it was not when the transfer opened')),
+    ('F 8', 'finish with unknown address: receipt unknown address, 0 bytes moved, sync 1; private '
+     'read from 09, 1 byte (call 24)'),
+    ('W 0d4 00400210', 'write CMD_FIFO: first word of a CCC'),
+    ('W 0d4 0000008b', 'write CMD_FIFO: second word of a CCC, direct, code 8b'),
+    ('S', 'start: direct CCC 8b write to 08, 2 bytes (call 28)'),
+    ('F 6', 'finish with NACK: receipt NACK, 0 bytes moved, sync 2; direct CCC 8b write to 08, '
+     '2 bytes (call 28)'),
+    ('W 084 ff', 'write IRQ_PENDING: clear CMDR_PENDING, IBI_PENDING, DAA_PENDING'),
+    ('W 0c0 1', 'write CMD_FIFO_ROOM: 00000001', dropped(Number.DROPPED_READ_ONLY)),
+    ('W 1234 1', 'write offset 1234: 00000001', dropped(Number.NO_REGISTER, 'not in the map')),
+    ('R 0c1', 'read offset 00c1', refused(Number.NO_REGISTER, 'not a multiple of 4')),
+    ('W 140 1', 'write IBI_CONFIG: IBI_CONFIG_ENABLE'),
+    ('I 8 5a', 'interrupt request of 08 with 5a', refused(Number.NOT_HEARD)),
+    ('W 0d4 00400000', 'write CMD_FIFO: first word of a CCC'),
+    ('W 0d4 00000007', 'write CMD_FIFO: second word of a CCC, ENTDAA'),
+    ('S', 'start: ENTDAA (call 38)'),
+    ('D 1 2', 'address request with 00000001 00000002'),
+    ('W 0dc 11000000', 'write SDO_FIFO: address 08, parity wrong'),
+    ('A', 'address take: address 08', taken(Number.WRONG_PARITY)),
+    ('F 10', 'finish with code 16', refused(Number.OUT_OF_RANGE)),
+    ('W 040 1', 'write ENABLE: reset and hold'),
+    ('W 0dc 1', 'write SDO_FIFO: bytes 00 00 00 01', dropped(Number.HELD_IN_RESET)),
+    ('R 100', 'read OPS: direct mode, offload length 0, speed 0, no transfer open'),
+    ('W 2c4 411', 'write OFFLOAD_CMD[1]: private read from 08, 4 bytes'),
+    ('R 300', 'read OFFLOAD_SDO[0]: bytes 00 00 00 00'),
+]
+# The same with bursts.
+BURST_TOLD = [
+    ('W 40 0', 'write ENABLE: release'),
+    ('W 180 1102', 'write DEV_CHAR: device 08, attached'),
+    ('W 2c0 211', 'write OFFLOAD_CMD[0]: private read from 08, 2 bytes'),
+    ('W 2c4 110', 'write OFFLOAD_CMD[1]: private write to 08, 1 byte'),
+    ('W 2c8 111', 'write OFFLOAD_CMD[2]: private read from 08, 1 byte'),
+    ('W 300 a5000000', 'write OFFLOAD_SDO[0]: bytes a5 00 00 00'),
+    ('G', 'trigger', refused(Number.NOT_IN_THIS_MODE, 'OPS says direct mode')),
+    ('W 100 7', 'write OPS: offload mode, offload length 3, speed 0'),
+    ('G', 'trigger: a burst of 3 commands'),
+    ('X 12', 'receive 12: byte 1 of 2'),
+    ('W 100 0', 'write OPS: direct mode, offload length 0, speed 0',
+     dropped(Number.TRANSFER_OPEN, 'private read, 1 of 2 bytes moved, command 0 of a burst')),
+    ('F 0', 'finish with no error: word 0 of the output is 12000000, command 1 of the burst is '
+     'next'),
+    ('T', 'send: a5, byte 1 of 1'),
+    ('F 0', 'finish with no error: command 2 of the burst is next'),
+    ('X 34', 'receive 34: byte 1 of 1'),
+    ('F 0', 'finish with no error: word 1 of the output is 34000000, the burst is done'),
+]
+# Causes that lie in the state before the call, and a command that is not whole.
+CAUSES_TOLD = [
+    ('W 40 0', 'write ENABLE: release'),
+    ('W 180 110c', 'write DEV_CHAR: device 08, not attached, may interrupt, sends a byte'),
+    ('R 180', 'read DEV_CHAR: device 08, not attached, may interrupt, sends a byte'),
+    ('W 140 2', 'write IBI_CONFIG: IBI_CONFIG_LISTEN'),
+    ('I 8 5a', 'interrupt request of 08 with 5a',
+     refused(Number.NOT_ACKNOWLEDGED, 'IBI_CONFIG_ENABLE is 0')),
+    ('W 140 3', 'write IBI_CONFIG: IBI_CONFIG_ENABLE, IBI_CONFIG_LISTEN'),
+    ('I 8 5a', 'interrupt request of 08 with 5a',
+     refused(Number.NOT_ACKNOWLEDGED, 'device 08 is not attached')),
+    ('W 180 110a', 'write DEV_CHAR: device 08, attached, sends a byte'),
+    ('I 8 5a', 'interrupt request of 08 with 5a',
+     refused(Number.NOT_ACKNOWLEDGED, 'device 08 may not interrupt')),
+    ('W 180 110e', 'write DEV_CHAR: device 08, attached, may interrupt, sends a byte'),
+    ('I 8 5a', 'interrupt request of 08 with 5a: interrupt from 08, byte 5a, sync 0'),
+    ('W 100 5', 'write OPS: offload mode, offload length 2, speed 0'),
+    ('S', 'start', refused(Number.NOT_IN_THIS_MODE, 'OPS says offload mode')),
+    ('W 2c4 510', 'write OFFLOAD_CMD[1]: private write to 08, 5 bytes'),
+    ('G', 'trigger', refused(Number.NOT_CARRIED, 'OFFLOAD_CMD[1] has 5 bytes')),
+    ('W 2c0 400010', 'write OFFLOAD_CMD[0]: first word of a CCC'),
+    ('G', 'trigger', refused(Number.NOT_CARRIED, 'OFFLOAD_CMD[0] is a CCC')),
+    ('W 100 0', 'write OPS: direct mode, offload length 0, speed 0'),
+    ('W 0d4 113', 'write CMD_FIFO: private read from 09, 1 byte'),
+    ('S', 'start: private read from 09, 1 byte (call 19)'),
+    ('W 180 1302', 'write DEV_CHAR: device 09, attached'),
+    ('X 5', 'receive 05', refused(Number.NOT_ATTACHED, 'it was not when the transfer opened')),
+    ('W 0d4 400210', 'write CMD_FIFO: first word of a CCC'),
+]
+# The end of the first log.
+SUMMARY = '''commands taken: 4; started: 4; finished: 3; receipts read: 1
+  call 24, private read from 09, 1 byte: no receipt read, lost by the reset of call 45
+  call 28, direct CCC 8b write to 08, 2 bytes: no receipt read, lost by the reset of call 45
+  call 38, ENTDAA: no receipt read, lost by the reset of call 45
+'''
+NO_COMMANDS = 'commands taken: 0; started: 0; finished: 0; receipts read: 0\n'
+# The lone first word of a CCC is no command yet.
+PART = '''commands taken: 1; started: 1; finished: 0; receipts read: 0
+  call 19, private read from 09, 1 byte: no receipt yet, open since call 20 (private read, 0 of 1 \
+byte moved)
+  call 23, first word of a CCC: no receipt yet, queued, its second word is missing
+'''
+
+
+def explained(*arguments, data, status=0):
+    got, output, message = tool('explain', *arguments, data=data)
+    equal('runs', arguments, (got, message), (status, b''))
+    return output.decode()
+
+
+def words(_):
+    """The words of each line, and of the end."""
+    for table, options, end in ((TOLD, [], SUMMARY), (BURST_TOLD, ['--bursts'], NO_COMMANDS),
+                                (CAUSES_TOLD, ['--bursts'], PART)):
+        log = explained(*options, data='\n'.join(line for line, *_ in table).encode())
+        lines = iter(log.split('\n'))
+        for line, *told in table:
+            for place, text in enumerate(told):
+                equal('words', '%s, line %d' % (line, place), next(lines)[41:], text)
+        equal('words', 'end', log.endswith(end), True)
+
+
+def answers_in(log):
+    """Call number and answer of each row of a log."""
+    rows = re.findall(r'^ *(\d+)  [A-Z][ 0-9a-f]{18}  ([0-9a-f]{8} \d\d)  ', log, re.MULTILINE)
+    return [(int(number), answer) for number, answer in rows]
+
+
+def logs(program):
+    """The answers of the log, its reasons and its counts, on generated scripts; a trace is told as
+    its script."""
+    for seed in SEEDS:
+        script = generated(seed, CALLS)
+        model = Model.set_up()
+        answers = [model.make(call) for call in session.calls(script)]
+        log = explained('--skip', data=script)
+        equal('logs', seed, answers_in(log),
+              [(number, str(answer)) for number, answer in enumerate(answers, 1)])
+        numbers = Counter(answer.number for answer in answers if answer.refused)
+        told = re.findall(r'^ {41}(?:dropped|refused): (\d+), ', log, re.MULTILINE)
+        equal('logs', seed, Counter(map(int, told)), numbers)
+        counts = re.findall(r'^  (\d+), (.*): (\d+) times? \(', log, re.MULTILINE)
+        equal('logs', seed, [(int(number), text, int(count)) for number, text, count in counts],
+              [(number, MEANINGS[number], numbers[number]) for number in sorted(numbers)])
+        equal('logs', seed, explained(data=pack(script)), log)
+        summary = explained('--skip', '--summary', data=script)
+        equal('logs', seed, log.endswith('\n\n' + summary), True)
+        if program:
+            _, output, _ = run([program], script)
+            equal('answers of %s' % program, seed, output.decode().splitlines(),
+                  [answer for _, answer in answers_in(log)])
+
+
+def ledgers(_):
+    """At every call the commands that wait are the words of CMD, those with an unread receipt are
+    as many as CMDR has, and one is open where a transfer is."""
+    for seed in SEEDS:
+        model, ledger = Model.set_up(), Ledger()
+        for made in inputs.run(model, [session.calls(generated(seed, CALLS))]):
+            ledger.follow(made)
+            image = made.after
+            equal('ledgers', made.number, tuple(word for entry in ledger.waiting
+                                                for word in entry.words),
+                  image.queue('cmd', model.store()))
+            equal('ledgers', made.number, (len(ledger.unread), ledger.open is not None),
+                  (image.levels.cmdr, image.transfer.phase != 0))
+        entries = [*ledger.unread, *ledger.waiting, *(entry for entry, _ in ledger.lost)]
+        equal('ledgers', 'balance', ledger.taken,
+              ledger.receipts_read + sum(entry.whole for entry in entries)
+              + (ledger.open is not None))
+        equal('ledgers', 'parts of commands', all(entry.whole for entry in entries), False)
+        equal('ledgers', 'something to count', min(ledger.receipts_read, len(ledger.lost)) > 10,
+              True)
+
+
+def differences(_):
+    """One wrong read is found where it lies, in both forms; of two the first."""
+    with tempfile.TemporaryDirectory() as folder:
+        path = pathlib.Path(folder) / 'recorded'
+        script, source = generated(2, CALLS), Source(7)
+        model = Model.set_up()
+        calls = [(number, call, model.make(call)) for number, call
+                 in enumerate(session.calls(script), 1)]
+        reads = [row for row in calls if row[1].letter == 'R']
+        for rows, form in ((reads, lambda answer: '%x' % answer.value),
+                           (reads, lambda answer: '0x%08X' % answer.value), (calls, str)):
+            right = [form(answer) for _, _, answer in rows]
+            find(path, script, right, 'no difference')
+            for _ in range(PLACES):
+                places = sorted({source.below(len(rows)), source.below(len(rows))})
+                wrong = list(right)
+                for place in places:
+                    wrong[place] = other(rows[place][2], form)
+                number, call, answer = rows[places[0]]
+                shown = str(answer) if form is str else '%08x' % answer.value
+                find(path, script, wrong, 'first difference: call %d, %s: the model has %s, the '
+                     'recording has ' % (number, session.line_of(call), shown))
+            number, call, _ = rows[-1]
+            find(path, script, right[:-1], 'call %d, %s: the model has ' % (
+                number, session.line_of(call)))
+            find(path, script, right + [right[0]] * 2, 'after the last call: the recording has 2 ')
+        # A number alone, of a call that is no read.
+        wrong = [str(answer) for _, _, answer in calls]
+        wrong[0] = wrong[0][:9] + '29'
+        find(path, script, wrong, 'first difference: call 1, ')
+
+
+def other(answer, form):
+    return form(answer._replace(value=answer.value ^ 0x100))
+
+
+def find(path, script, lines, text):
+    path.write_text('\n'.join(lines) + '\n')
+    status = 0 if text == 'no difference' else 1
+    summary = explained('--skip', '--summary', '--recorded', path, data=script, status=status)
+    equal('differences', text, summary[summary.rindex('\nrecording'):].count(text), 1)
+
+
+def suspects(_):
+    """The refused call before the difference is named."""
+    script = b'W 40 0\nW d4 1\nW d4 1\nW d4 1\nW d4 1\nW d4 1\nR c0\nR 1\n'
+    with tempfile.TemporaryDirectory() as folder:
+        path = pathlib.Path(folder) / 'recorded'
+        path.write_text('1\n0\n')
+        log = explained('--recorded', path, data=script, status=1)
+    equal('differences', 'suspect', log.endswith(
+        'recording, first difference: call 7, R 00c0: the model has 00000000, the recording has '
+        '00000001\n  refused last before it: call 6, write CMD_FIFO: private read from 00, 0 '
+        'bytes: 1, %s (CMD has 4 of 4 words)\n' % MEANINGS[Number.DROPPED_FULL]), True)
+
+
+if __name__ == '__main__':
+    if len(sys.argv) > 2:
+        sys.exit(__doc__)
+    main('explain', [words, logs, ledgers, differences, suspects],
+         sys.argv[1] if len(sys.argv) == 2 else None)

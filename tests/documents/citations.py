@@ -17,8 +17,8 @@ import sys
 
 sys.path.insert(0, str(pathlib.Path(__file__).resolve().parents[2]))
 
-from tests.documents.declared import (CRATES, EDITS, TABLE, missing_definitions, missing_functions, missing_theorems, plain,
-                                      rows, rules, specs)
+from tests.documents.declared import (EDITS, TABLE, missing_definitions, missing_functions, missing_theorems, plain, rows,
+                                      rules)
 
 DOCUMENTS = [pathlib.Path('README.md'), *sorted(pathlib.Path('docs').glob('*.md'))]
 COMMENTED = {'.antt': '--', '.rt': '//', '.edit': '#', '.py': '#', '.sh': '#'}
@@ -53,16 +53,15 @@ def there(path: str) -> bool:
 
 def missing(token: str):
     """What a name between backticks says that is not there."""
-    first = re.split(r'::?|/', token)[0]
     if re.fullmatch(r'\w+/\w+', token):
-        if first in CRATES and token not in EDITS and not there(token):
+        if token not in EDITS and not there(token):
             yield f'no must-fail edit {token}'
     elif re.fullmatch(r'\w+::(?:\w+::)*(?:\w+|\{[\w, ]+\})', token):
-        yield from missing_functions(token) if first in CRATES else ()
+        yield from () if token.startswith('libc::') else missing_functions(token)
     elif re.fullmatch(r'(?:\w+: )?[A-Z]\w*: [^:]+', token):
-        yield from missing_definitions(token) if first in CRATES or specs(first) else ()
+        yield from missing_definitions(token)
     elif re.fullmatch(r'\w+: [^:]+', token):
-        yield from missing_theorems(token) if first in CRATES else ()
+        yield from missing_theorems(token)
     elif re.fullmatch(r'\w+\.(?:py|sh|rs|antt|md)(?: --\w+)?', token) and token.split()[0] not in FILES:
         yield f'no file {token}'
 

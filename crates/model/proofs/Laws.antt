@@ -270,10 +270,26 @@ listed-words l Sdo = refl
 listed-words l Sdi = refl
 listed-words l Ibi = refl
 
-pub fresh-sound : (caps marks : Sizes) (id : ℕ) (store : List ℕ) → setUp caps marks id .answer .number ≡ 0 → length store ≡ total (setUp caps marks id .bank .state .caps) → Sound (fresh caps marks id store) (freshLists caps marks id)
+-- a bank with its store and no output, for the two engines; the lists have the queues that are given
+abbrev holding : Bank → List ℕ → Controller
+holding b store = record { bank = b; store = store; output = [] }
+
+abbrev listing : Bank → Lists → Lists
+listing b m =
+    record {
+      regs = b .state .regs;
+      control = b .state .control;
+      phase = b .state .phase;
+      tables = record { flags = b .flags; commands = b .commands; payloads = b .payloads; output = [] };
+      queues = m .queues;
+    }
+
+pub fresh-sound : (caps marks : Sizes) (id : ℕ) (store : List ℕ) → setUp caps marks id .answer .number ≡ 0
+    → length store ≡ total (setUp caps marks id .bank .state .caps) → Sound (fresh caps marks id store) (freshLists caps marks id)
 unfolding entries
 fresh-sound caps marks id store n z =
-    subst (λ (b : Bank). length store ≡ total (b .state .caps) → Sound (record { bank = b; store = store; output = [] }) (record { regs = b .state .regs; control = b .state .control; phase = b .state .phase; tables = record { flags = b .flags; commands = b .commands; payloads = b .payloads; output = [] }; queues = freshLists caps marks id .queues })) (sym (bank-is caps marks id n))
+    subst (λ (b : Bank). length store ≡ total (b .state .caps) → Sound (holding b store) (listing b (freshLists caps marks id)))
+    (sym (bank-is caps marks id n))
     (λ y. record { is = refl; formed = fresh-formed caps marks id n; size = y })
     z
 

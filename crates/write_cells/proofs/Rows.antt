@@ -8,7 +8,8 @@ use Rattle.model.specs.Decision.{Effect, unchanged, _withNumber_, _withRegs_, _
 use Rattle.effect.specs.declared.Table.{Table}
 use Rattle.effect.specs.Effects.{tablesBy}
 
-pub flags-by : (t : Tables) (i w : ℕ) (b : Bool) → cond b (tables (set (t .flags) i w) (t .commands) (t .payloads) (t .output)) t ≡ tables (cond b (set (t .flags) i w) (t .flags)) (t .commands) (t .payloads) (t .output)
+pub flags-by : (t : Tables) (i w : ℕ) (b : Bool) → cond b (tables (set (t .flags) i w) (t .commands) (t .payloads) (t .output)) t
+    ≡ tables (cond b (set (t .flags) i w) (t .flags)) (t .commands) (t .payloads) (t .output)
 flags-by t i w true = refl
 flags-by t i w false = refl
 

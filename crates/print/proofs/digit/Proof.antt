@@ -26,10 +26,10 @@ sub-result : tie.Need-sub-result
 sub-result c = search needs
 
 cast-result-2 : tie.Need-cast-result-2
-cast-result-2 c = omega (arith, mod-lt (c .before .args .n / c .before .args .unit) (c .before .pre .0))
+cast-result-2 c = let a = c .before in omega (arith, mod-lt (a .args .n / a .args .unit) (a .pre .0))
 
 add-result-2 : tie.Need-add-result-2
-add-result-2 c = omega (arith, mod-lt (c .before .args .n / c .before .args .unit) (c .before .pre .0))
+add-result-2 c = let a = c .before in omega (arith, mod-lt (a .args .n / a .args .unit) (a .pre .0))
 
 returns-2 : tie.Need-returns-2
 returns-2 c = rw (le-ltb _ _ (c .if1 .left))

@@ -1,5 +1,4 @@
 -- `replay::turn` is safe and ends.
-use Prim.Native.Nat.{_≤_}
 use native.Mathlib.Omega.{arith}
 use mathlib.Core.Path.{_≡_}
 use lib.ListN.{length, length-take}
@@ -23,13 +22,20 @@ slice-reshare-prefix-feed c = search needs
 slice-aggregate-feed : tie.Need-slice-aggregate-feed
 slice-aggregate-feed c = simp length-take (omega (arith, c .before .before .before .before .before .fill .ensures .1))
 
+-- the piece read, seen from the piece fed, and that from its text written
+abbrev filled : tie.After-feed → tie.After-fill
+filled c = c .before .before .before .before .before .before .before
+
+abbrev fed : tie.After-write-counted → tie.After-feed
+fed c = c .before .before .before .before .before .before
+
 feed-requires : tie.Need-feed-requires
 feed-requires c κs =
-    let a = c .before .before .before .before .before .before .before .before .before .before .before in
-    let f = c .before .before .before .before .before .before .fill in
-    let kept : length (f .last .0) ≡ length (a .args .buf .now) = search needs in
-    let long = length-take-le (f .result .have) (f .last .0) (f .ensures .1) in
-    omega (arith, long, kept, f .ensures .1, a .pre .1, a .pre .2)
+    let f = c .before .before .before .before .before .before in
+    let a = f .before .before .before .before .before in
+    let kept : length (f .fill .last .0) ≡ length (a .args .buf .now) = search needs in
+    let long = length-take-le (f .fill .result .have) (f .fill .last .0) (f .fill .ensures .1) in
+    omega (arith, long, kept, f .fill .ensures .1, a .pre .1, a .pre .2)
 
 slice-reshare-prefix-write-counted : tie.Need-slice-reshare-prefix-write-counted
 slice-reshare-prefix-write-counted c = search needs
@@ -42,19 +48,15 @@ write-counted-requires c κs = search needs
 
 sub-rest : tie.Need-sub-rest
 sub-rest c =
-    let a = c .before .before .before .before .before .before .before .before .before .before .before .before .before .before .before .before .before .before in
-    let f = c .before .before .before .before .before .before .before .before .before .before .before .before .before .fill in
-    let kept : length (f .last .0) ≡ length (a .args .buf .now) = search needs in
-    let long = length-take-le (f .result .have) (f .last .0) (f .ensures .1) in
-    omega (arith, long, c .before .before .before .before .before .before .feed .ensures .2)
+    let y = fed c in
+    let f = filled y .fill in
+    omega (arith, length-take-le (f .result .have) (f .last .0) (f .ensures .1), y .feed .ensures .2)
 
 shift-requires : tie.Need-shift-requires
 shift-requires c κs =
-    let a = c .before .before .before .before .before .before .before .before .before .before .before .before .before .before .before .before .before .before .before in
-    let f = c .before .before .before .before .before .before .before .before .before .before .before .before .before .before .fill in
-    let kept : length (f .last .0) ≡ length (a .args .buf .now) = search needs in
-    let long = length-take-le (f .result .have) (f .last .0) (f .ensures .1) in
-    omega (arith, long, f .ensures .1, c .before .before .before .before .before .before .before .feed .ensures .2)
+    let y = fed (c .before) in
+    let f = filled y .fill in
+    omega (arith, length-take-le (f .result .have) (f .last .0) (f .ensures .1), f .ensures .1, y .feed .ensures .2)
 
 counted-requires : tie.Need-counted-requires
 counted-requires c κs = search needs
@@ -73,9 +75,9 @@ same-length-4 c = search needs
 
 returns-2 : tie.Need-returns-2
 returns-2 c =
-    let f = c .before .before .before .before .before .before .before .before .before .before .before .before .before .before .before .before .before .before .before .before .fill in
-    let long = length-take-le (f .result .have) (f .last .0) (f .ensures .1) in
-    omega (arith, long, c .before .before .before .before .before .before .before .before .before .before .before .before .before .feed .ensures .3, c .before .before .before .before .before .before .before .before .before .before .before .before .before .feed .ensures .2)
+    let y = fed (c .before .before .before .before .before .before .before) in
+    let f = filled y .fill in
+    omega (arith, length-take-le (f .result .have) (f .last .0) (f .ensures .1), y .feed .ensures .2, y .feed .ensures .3)
 
 pub turn-spec : {M : Type 1} → statement M
 turn-spec =

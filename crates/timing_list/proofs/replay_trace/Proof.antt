@@ -31,9 +31,15 @@ same-length-2 c = search needs
 
 returns : tie.Need-returns
 returns c =
-    let a = c .before .before .before .before .before .before .before .before .before .before .before .before .before .before .args in
-    let e = c .before .before .before .before .before .before .before .before .replay-once .ensures ∙ ap (λ (b : Bank). replayOf (a .file .now) 0 (length (a .file .now)) (controller b (a .store .now) [])) (c .before .before .before .before .before .before .before .before .before .before .fresh .ensures) in
-    (ap (λ (x : Replay). x .told .count % 2 ^ 32) e, ap (λ (x : Replay). x .left .store) e, c .before .before .before .keep .ensures ∙ ap (λ (x : Replay). keptIn (a .last .now) (x .told .answer)) e)
+    let once = c .before .before .before .before .before .before .before .before in
+    let fresh = once .before .before in
+    let a = fresh .before .before .before .before .args in
+    let e = once .replay-once .ensures
+    ∙ ap (λ (b : Bank). replayOf (a .file .now) 0 (length (a .file .now)) (controller b (a .store .now) [])) (fresh .fresh .ensures) in (
+      ap (λ (x : Replay). x .told .count % 2 ^ 32) e,
+      ap (λ (x : Replay). x .left .store) e,
+      c .before .before .before .keep .ensures ∙ ap (λ (x : Replay). keptIn (a .last .now) (x .told .answer)) e,
+    )
 
 pub replay-trace-spec : {M : Type 1} → statement M
 replay-trace-spec =

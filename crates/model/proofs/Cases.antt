@@ -5,17 +5,17 @@ use Rattle.ring.specs.Ring.{entries}
 use Rattle.bank.specs.SetUp.{capsOk, marksOk, sizesOk, setUp}
 use Rattle.bank.specs.Bursts.{allCarried, readsIn}
 use Rattle.bank.specs.Formed.{queuesOk, regsOk, flagsOk, phaseOk, burstOk, openOk, queuesClear, controlClear, resetOk, wellFormed}
-use Rattle.registers.specs.Map.{named, offload, find}
+use Rattle.registers.specs.Map.{named, offload, entryAt}
 use Rattle.model.specs.Commands.{kindOf, isEntdaa, isRead, isWrite, lengthOf, begun, receiptWord, entryWord}
 use Rattle.model.specs.Registers.{enable}
 use Rattle.model.specs.Calls.{start, send, receive, allowed, padded, finish, interrupt, request, takeAddress}
-use Rattle.model.specs.Bursts.{short, trigger, burstSend, burstReceive, burstFinish}
+use Rattle.model.specs.Bursts.{shortInBurst, trigger, burstSend, burstReceive, burstFinish}
 use Rattle.model.specs.Engine.{step, lending, final}
 use Rattle.model.specs.Rings.{onRing, onStore, guardRings}
 use Rattle.model.specs.Demand.{tally}
-use Rattle.model.specs.Cases.{answered, allHold, rounds, worked, thirdByte, released, fifthWrite, cccAlone, addresses, fiveBytes, interrupt8, receipt257, table, Hold}
+use Rattle.model.specs.Cases.{answered, allHold, rounds, worked, thirdByte, releasedCase, fifthWrite, cccAlone, addresses, fiveBytes, interrupt8, receipt257, table, Hold}
 use Rattle.model.specs.BurstLaw.{after}
-use Rattle.model.specs.BurstCases.{callsOf, sampling, attaching, refusing, opened, shortened, BurstsWork}
+use Rattle.model.specs.BurstCases.{callsOf, sampling, attaching, refusing, openedBurst, shortened, BurstsWork}
 use Rattle.model.specs.Tallies.{sessionCalls, sessionTally, assignmentCalls, assignmentTally, writes, retryCalls, retryTally, droppedCalls, droppedTally, burstCalls, burstTally, Counted}
 
 -- ── What opens where calls compute ────────────────────────────────────────────────────────────────────────────
@@ -26,12 +26,12 @@ banks = tt
 
 -- commands and registers
 unfoldable pub words : Unit {0}
-unfolding kindOf isEntdaa isRead isWrite lengthOf begun receiptWord entryWord named offload find enable ones
+unfolding kindOf isEntdaa isRead isWrite lengthOf begun receiptWord entryWord named offload entryAt enable ones
 words = tt
 
 -- the calls
 unfoldable pub calls : Unit {0}
-unfolding start send receive allowed padded finish interrupt request takeAddress short trigger burstSend burstReceive burstFinish
+unfolding start send receive allowed padded finish interrupt request takeAddress shortInBurst trigger burstSend burstReceive burstFinish
 calls = tt
 
 -- a step of the ring engine, and a run of steps
@@ -41,7 +41,7 @@ steps = tt
 
 -- ── The tables ───────────────────────────────────────────────────────────────────────────────────────────────────
 pub hold : Hold
-unfolding steps answered allHold rounds worked thirdByte released fifthWrite cccAlone addresses fiveBytes interrupt8 receipt257 table Hold
+unfolding steps answered allHold rounds worked thirdByte releasedCase fifthWrite cccAlone addresses fiveBytes interrupt8 receipt257 table Hold
 hold = refl
 
 pub counted : Counted
@@ -49,7 +49,7 @@ unfolding steps tally sessionCalls sessionTally assignmentCalls assignmentTally 
 counted = record { worked = refl; assignment = refl; retry = refl; dropped = refl; burst = refl }
 
 pub bursts-work : BurstsWork
-unfolding steps answered after callsOf sampling attaching refusing opened shortened
+unfolding steps answered after callsOf sampling attaching refusing openedBurst shortened
 bursts-work =
     record {
       sampled = record { answers = refl; output = refl };

@@ -31,7 +31,7 @@ use Rattle.model.specs.Bursts.{trigger, burstSend, burstReceive, burstFi
 use Rattle.model.specs.Engine.{Step, outcome, step, Lent, stepLent, final, answers}
 use Rattle.model.specs.Rings.{Controller, Area, areas, wordsIn, viewRings, onRing, settleRings, guardRings, rings}
 use Rattle.model.specs.Lists.{Lists, lists, onWords}
-use Rattle.model.specs.Laws.{fresh, freshLists, EnginesAgree, RefusalChangesNothing, StoreKeepsLength, OutputKeepsLength, WatermarksStay, same, readNames, writeNames, names, OthersStay}
+use Rattle.model.specs.Laws.{freshController, freshLists, EnginesAgree, RefusalChangesNothing, StoreKeepsLength, OutputKeepsLength, WatermarksStay, sameQueue, readNames, writeNames, names, OthersStay}
 use Rattle.model.proofs.Tests.{Passed, passed, of-two, Refusal, refusal}
 use Rattle.model.proofs.Numbers.{zeroOr19, effect-number, all-refusals}
 use Rattle.model.proofs.Room.{fits}
@@ -168,7 +168,7 @@ kept-all Sdo = refl
 kept-all Sdi = refl
 kept-all Ibi = refl
 
-kept-only : (q : Queue) (o : QueueOp) (k : Queue) → same q k ≡ false → of k (only q o) ≡ keep
+kept-only : (q : Queue) (o : QueueOp) (k : Queue) → sameQueue q k ≡ false → of k (only q o) ≡ keep
 kept-only Cmd o Cmd e = absurd (true≢false e)
 kept-only Cmd o Cmdr e = refl
 kept-only Cmd o Sdo e = refl
@@ -218,7 +218,7 @@ write-kept s (takes q) v k h = kept-all k
 write-kept s enables v k h = enable-kept s (bit 0 v) k h
 write-kept s acknowledges v k h = kept-all k
 
-finish-kept : (a b : QueueOp) (k : Queue) → same Cmdr k ≡ false → same Sdi k ≡ false → of k (record { cmd = keep; cmdr = a; sdo = keep; sdi = b; ibi = keep }) ≡ keep
+finish-kept : (a b : QueueOp) (k : Queue) → sameQueue Cmdr k ≡ false → sameQueue Sdi k ≡ false → of k (record { cmd = keep; cmdr = a; sdo = keep; sdi = b; ibi = keep }) ≡ keep
 finish-kept a b Cmd e f = refl
 finish-kept a b Cmdr e f = absurd (true≢false e)
 finish-kept a b Sdo e f = refl
@@ -235,7 +235,7 @@ keeps s (Write o v) k h = write-kept s (row (registerAt o)) v k h
 keeps s Start k h = kept-only Cmd _ k h
 keeps s Send k h = of-two (KeepsQueue k) (bursting (s .control)) (burstSend s) (send s) (λ e. kept-all k) (λ e. kept-only Sdo _ k h)
 keeps s (Receive b) k h = of-two (KeepsQueue k) (bursting (s .control)) (burstReceive s b) (receive s b) (λ e. kept-all k) (λ e. kept-only Sdi _ k h)
-keeps s (Finish code) k h = of-two (KeepsQueue k) (bursting (s .control)) (burstFinish s code) (finish s code) (λ e. kept-all k) (λ e. finish-kept _ _ k (or-left (same Cmdr k) (same Sdi k) h) (or-right (same Cmdr k) (same Sdi k) h))
+keeps s (Finish code) k h = of-two (KeepsQueue k) (bursting (s .control)) (burstFinish s code) (finish s code) (λ e. kept-all k) (λ e. finish-kept _ _ k (or-left (sameQueue Cmdr k) (sameQueue Sdi k) h) (or-right (sameQueue Cmdr k) (sameQueue Sdi k) h))
 keeps s (Interrupt a b) k h = kept-only Ibi _ k h
 keeps s (Request v w) k h = kept-only Sdi _ k h
 keeps s Take k h = kept-only Sdo _ k h
@@ -285,7 +285,7 @@ listing b m =
     }
 
 pub fresh-sound : (caps marks : Sizes) (id : ℕ) (store : List ℕ) → setUp caps marks id .answer .number ≡ 0
-    → length store ≡ total (setUp caps marks id .bank .state .caps) → Sound (fresh caps marks id store) (freshLists caps marks id)
+    → length store ≡ total (setUp caps marks id .bank .state .caps) → Sound (freshController caps marks id store) (freshLists caps marks id)
 unfolding entries
 fresh-sound caps marks id store n z =
     subst (λ (b : Bank). length store ≡ total (b .state .caps) → Sound (holding b store) (listing b (freshLists caps marks id)))
@@ -297,8 +297,8 @@ pub engines-agree : EnginesAgree
 unfolding EnginesAgree
 engines-agree caps marks id store cs n z =
     let h = fresh-sound caps marks id store n z in
-    let l = final rings (fresh caps marks id store) cs in
+    let l = final rings (freshController caps marks id store) cs in
     record {
-      sameAnswers = same-answers cs (fresh caps marks id store) (freshLists caps marks id) h;
-      sameWords = λ k. sym (listed-words l k) ∙ ap (λ (x : Lists). of k (x .queues) .words) (same-final cs (fresh caps marks id store) (freshLists caps marks id) h .is);
+      sameAnswers = same-answers cs (freshController caps marks id store) (freshLists caps marks id) h;
+      sameWords = λ k. sym (listed-words l k) ∙ ap (λ (x : Lists). of k (x .queues) .words) (same-final cs (freshController caps marks id store) (freshLists caps marks id) h .is);
     }

@@ -15,10 +15,10 @@ use Rattle.letters.specs.declared.Parsed.{Parsed}
 use Rattle.letters.specs.declared.Parsed.the-variants.{Named, Skipped}
 use Rattle.trace_model.specs.Format.{lookNumber, section}
 use Rattle.trace_model.proofs.Sections.{refused}
-use Rattle.record_model.specs.Record.{recordAt, each, within}
+use Rattle.record_model.specs.Record.{recordAt, eachRecord, wholeRecords}
 use Rattle.record_model.proofs.Each.{goes, stops, ends}
 use Rattle.record_model.proofs.Kept.{same-size, same-output}
-use Rattle.playback_model.specs.Replay.{Replay, telling, begun, did, wrong, replayOf}
+use Rattle.playback_model.specs.Replay.{Replay, telling, replayBegun, did, wrong, replayOf}
 use Rattle.playback_model.proofs.Laws.{refuses, plays}
 
 -- a call that is made keeps both lengths
@@ -31,18 +31,18 @@ module _ (l : Controller) (k : Call) (y : Out) (output store : List ℕ) (made :
 
   -- and the records after it give what it and they gave
   pub record-done : (n i : ℕ) (bytes : List ℕ) (a : Answer) (all : Replay) (found : Parsed) → i < n → found ≡ recordAt bytes i → found ≡ Named k
-      → each did wrong (n - i) bytes i (telling 0 i a l) ≡ all
-      → each did wrong (n - (i + 1)) bytes (i + 1) (telling 0 (i + 1) (y .answer) (controller (y .bank) store output)) ≡ all
+      → eachRecord did wrong (n - i) bytes i (telling 0 i a l) ≡ all
+      → eachRecord did wrong (n - (i + 1)) bytes (i + 1) (telling 0 (i + 1) (y .answer) (controller (y .bank) store output)) ≡ all
   record-done n i bytes a all found h e f g =
       let j : i + 1 ≡ suc i = omega arith in
-      ap (λ (x : Step Controller). each did wrong (n - (i + 1)) bytes (i + 1) (telling 0 (i + 1) (x .answer) (x .next))) made
-      ∙ ap (λ (m : ℕ). each did wrong (n - (i + 1)) bytes (i + 1) (telling 0 m (step rings l k .answer) (step rings l k .next))) j
+      ap (λ (x : Step Controller). eachRecord did wrong (n - (i + 1)) bytes (i + 1) (telling 0 (i + 1) (x .answer) (x .next))) made
+      ∙ ap (λ (m : ℕ). eachRecord did wrong (n - (i + 1)) bytes (i + 1) (telling 0 m (step rings l k .answer) (step rings l k .next))) j
       ∙ goes did wrong n i bytes (telling 0 i a l) k h (sym e ∙ f)
       ∙ g
 
 -- what is told, and the store that is left
 module _ (n i : ℕ) (bytes : List ℕ) (a : Answer) (b : Bank) (store output : List ℕ) (all : Replay)
-    (left : each did wrong (n - i) bytes i (telling 0 i a (controller b store output)) ≡ all) where
+    (left : eachRecord did wrong (n - i) bytes i (telling 0 i a (controller b store output)) ≡ all) where
   abbrev l : Controller
   l = controller b store output
 
@@ -72,12 +72,12 @@ abbrev pub unnumbered : Replay → Replay
 unnumbered r = telling 0 (r .told .count) (r .told .answer) (r .left)
 
 -- the section's records make the replay but for its number: a section that is refused has none
-pub same : (file bytes : List ℕ) (l : Controller) (n x : ℕ) → x ≡ lookNumber file 0 → bytes ≡ section file 0 → n ≡ within (length file) bytes → 12 * n ≤ length bytes
-    → unnumbered (each did wrong n bytes 0 (begun 0 l)) ≡ unnumbered (replayOf file 0 (length file) l)
-unfolding each
-same file bytes l n zero e s w h = ap (λ (m : ℕ). unnumbered (each did wrong m bytes 0 (begun 0 l))) w ∙ ap unnumbered (plays file 0 (length file) l bytes s (sym e))
+pub same : (file bytes : List ℕ) (l : Controller) (n x : ℕ) → x ≡ lookNumber file 0 → bytes ≡ section file 0 → n ≡ wholeRecords (length file) bytes → 12 * n ≤ length bytes
+    → unnumbered (eachRecord did wrong n bytes 0 (replayBegun 0 l)) ≡ unnumbered (replayOf file 0 (length file) l)
+unfolding eachRecord
+same file bytes l n zero e s w h = ap (λ (m : ℕ). unnumbered (eachRecord did wrong m bytes 0 (replayBegun 0 l))) w ∙ ap unnumbered (plays file 0 (length file) l bytes s (sym e))
 same file bytes l n (suc x) e s w h =
     let wrong-file : suc x ≡ 0 → ⊥ = λ p. omega (arith, p) in
     let none : length bytes ≡ 0 = ap length (s ∙ sym (refused file 0 (suc x) e wrong-file .0)) in
     let z : n ≡ 0 = omega (arith, h, none) in
-    ap (λ (m : ℕ). unnumbered (each did wrong m bytes 0 (begun 0 l))) z ∙ ap unnumbered (refuses file 0 (length file) l (suc x) e wrong-file)
+    ap (λ (m : ℕ). unnumbered (eachRecord did wrong m bytes 0 (replayBegun 0 l))) z ∙ ap unnumbered (refuses file 0 (length file) l (suc x) e wrong-file)

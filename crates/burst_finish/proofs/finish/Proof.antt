@@ -94,14 +94,14 @@ returns-2 c = λ p o f h.
     let span-of = phase .before .before in
     let reads = span-of .before in
     let way = reads .before .before in
-    let open = way .before in
-    let tested = open .before in
+    let opened = way .before in
+    let tested = opened .before in
     let number-of = tested .before in
     let a = number-of .before in
     let st = a .args .st in
     let ws = a .args .commands .now in
     let t = tables (a .args .flags .now) ws p o in
-    rw (c .done-with .ensures t, table .table-if .ensures t, none .none .ensures, control .burst-at .ensures, place-after .after .ensures, phase .next-phase .ensures, span-of .span-of .ensures .0, reads .reads-in .ensures .0, way .is-reading .ensures, open .transfer-of .ensures)
+    rw (c .done-with .ensures t, table .table-if .ensures t, none .none .ensures, control .burst-at .ensures, place-after .after .ensures, phase .next-phase .ensures, span-of .span-of .ensures .0, reads .reads-in .ensures .0, way .is-reading .ensures, opened .transfer-of .ensures)
     (rw (output-if (reading (st .phase)) (readsIn (place (st .control)) ws) (transfer (st .phase) .part) t)
     (served-as (λ v. outputFirst v (burstFinish v (a .args .code))) (seen st t f) refl (sym (number-of .finish-number .ensures (a .args .flags .now) p o f h) ∙ tested .if1 .left)))
 

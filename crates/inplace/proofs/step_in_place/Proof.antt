@@ -173,7 +173,8 @@ module _ {M : Type 1} (𝓤 : URA M) (H : Heap 𝓤) (A : Atoms 𝓤) (W : Given
         among ! (24 ∷ 14 ∷ 0 ∷ []) (copies ! B.the-type B′.the-laws h refl g) $
         among ! (22 ∷ 12 ∷ 10 ∷ []) (relends ! refl refl refl (tt, tt) (tt, (tt, (record { fits = room .0 }, tt)))) $
         among ! (20 ∷ 8 ∷ 6 ∷ []) (relends ! refl refl refl (tt, tt) (tt, (tt, (record { fits = room″ .0 }, tt)))) $
-        -- [what the store's `&mut` owns; what the rest own; the cell; the open borrow; obs; auth; the tokens (6); _10; …], and then the output's `&mut` first
+        -- [what the store's `&mut` owns; what the rest own; the cell; the open borrow; obs; auth; the tokens (6);
+        --  _10; …], and then the output's `&mut` first
         move ! (5 ∷ []) $ fsplit ! $ move ! (1 ∷ []) $ fsplit ! $ move ! (7 ∷ 2 ∷ 0 ∷ []) $ use3 W (raw (Step 𝓤 H A at-mem run .pre to-step)) (goes-step g) $
         -- [what `controller::step` asks; what the call owns; the cell; the open borrow; obs; auth; _10 (6); …; _9 (8); …; _8 (10); …; _7 (12); …; _6
         -- (14); …; _5 (16); …; _4 (18); …; _3 (20); …; _2 (22); …; _1 (24); …; _0 (26); …]

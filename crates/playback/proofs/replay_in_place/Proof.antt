@@ -170,7 +170,8 @@ module _ {M : Type 1} (𝓤 : URA M) (H : Heap 𝓤) (A : Atoms 𝓤) (W : Given
         among ! (20 ∷ 8 ∷ 6 ∷ []) (relends ! refl refl refl (tt, tt) (tt, (tt, (record { fits = room .0 }, tt)))) $
         -- the file's `&` is had twice: one goes to the callee, and one is kept for the exit
         move ! (5 ∷ []) $ fsplit ! $ move ! (1 ∷ []) $ fsplit ! $ use1 W (‵ Own ⊛ ‵ Own) (shr-slice-copy 𝓤 H A W (named 2) κ″ u8 .twice y (s″ ∷ [])) $ split ! $
-        -- [the file's `&`; the same; what the numbers own; what the store's `&mut` owns; the cell; the open borrow; obs; auth; the tokens (8); _9; …]
+        -- [the file's `&`; the same; what the numbers own; what the store's `&mut` owns; the cell; the open borrow; obs; auth;
+        --  the tokens (8); _9; …]
         move ! (8 ∷ 3 ∷ 0 ∷ []) $ use3 W (raw (Step 𝓤 H A at-mem run .pre to-step)) (goes-step g) $
         -- [what `playback::replay` asks; the file's `&`; what the numbers own; the cell (3); the open borrow; obs; auth; _9 (7); …; _8 (9); …; _7
         -- (11); …; _6 (13); …; _5 (15); …; _4 (17); …; _3 (19); …; _2 (21); …; _1 (23); …; _0 (25); …]

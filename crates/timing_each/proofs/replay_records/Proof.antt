@@ -5,9 +5,9 @@ use mathlib.Core.List.{[]}
 use lib.ListN.{length}
 use borrow.Author.Needs.{needs}
 use Rattle.answer.specs.Given.{controller}
-use Rattle.record_model.specs.Record.{each}
+use Rattle.record_model.specs.Record.{eachRecord}
 use Rattle.record_model.proofs.Each.{starts}
-use Rattle.playback_model.specs.Replay.{telling, begun, did, wrong}
+use Rattle.playback_model.specs.Replay.{telling, replayBegun, did, wrong}
 use Rattle.timing_each.proofs.Records.{store-kept, output-kept, record-done, wrong-told, wrong-left, done-told, done-left}
 use Rattle.timing_each.proofs.replay_records.Statement.{statement}
 use Rattle.timing_each.proofs.replay_records.Tie as tie
@@ -15,7 +15,7 @@ use Rattle.timing_each.proofs.replay_records.Tie as tie
 abbrev Inv-loop : tie.InvT-loop
 Inv-loop store₀ records n bank₀ a₀ none₀ i₀ store bank a none i =
     (i ≤ n) × (n < 18446744073709551616) × (12 * n ≤ length records) × (length store ≡ length store₀) × (length none ≡ 0)
-    × (each did wrong (n - i) records i (telling 0 i a (controller bank store none)) ≡ each did wrong n records 0 (begun 0 (controller bank₀ store₀ [])))
+    × (eachRecord did wrong (n - i) records i (telling 0 i a (controller bank store none)) ≡ eachRecord did wrong n records 0 (replayBegun 0 (controller bank₀ store₀ [])))
 
 abbrev μ-loop : tie.MeasureT-loop
 μ-loop store₀ records n bank₀ a₀ none₀ i₀ store bank a none i = n - i

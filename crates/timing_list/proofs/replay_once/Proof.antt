@@ -44,14 +44,14 @@ use Rattle.walks.proofs.Statements.{relends, gets, packs}
 use Rattle.walks.proofs.Leaves.{freed, local, none}
 use Rattle.bank.specs.declared.Bank.{Bank}
 use Rattle.answer.specs.Given.{controller}
-use Rattle.playback_model.specs.declared.Told.{Told}
+use Rattle.playback_model.specs.declared.Report.{Report}
 use Rattle.replayed.specs.declared.Replayed.{Replayed}
 use Rattle.playback_model.specs.Replay.{replayOf}
 use Rattle.replayed.specs.Given.{replayedPlace}
 use Rattle.bank.proofs.Bank as B
 use Rattle.bank.proofs.Bank.Laws as B′
-use Rattle.playback_model.proofs.Told as N
-use Rattle.playback_model.proofs.Told.Laws as N′
+use Rattle.playback_model.proofs.Report as N
+use Rattle.playback_model.proofs.Report.Laws as N′
 use Rattle.replayed.proofs.Replayed as O
 use Rattle.replayed.proofs.Replayed.Laws as O′
 use Rattle.playback.proofs.replay_in_place as ran
@@ -79,7 +79,7 @@ bank-val h = LL.val B.the-type B′.the-laws h
 abbrev out-val : Replayed → Val
 out-val r = LL.val O.the-type O′.the-laws r
 
-abbrev out : Bank → Told → Replayed
+abbrev out : Bank → Report → Replayed
 out z r = record { bank = z; told = r }
 
 -- the contract that the proof cites
@@ -87,7 +87,7 @@ abbrev Ran : {M : Type 1} (𝓤 : URA M) (H : Heap 𝓤) (A : Atoms 𝓤) (mem :
 Ran 𝓤 H A mem run = tripleOf 𝓤 H A ran.signature (ran.spec 𝓤 H A mem run)
 
 -- what a `Replayed` of the two parts is related to
-both : (z : Bank) (r : Told) (w : Val) → Is B.the-row z (bank-val z ∷ []) → Is N.the-row r (w ∷ []) → Is O.the-row (out z r) (out-val (out z r) ∷ [])
+both : (z : Bank) (r : Report) (w : Val) → Is B.the-row z (bank-val z ∷ []) → Is N.the-row r (w ∷ []) → Is O.the-row (out z r) (out-val (out z r) ∷ [])
 both z r w g is = LL.owes O.the-type O′.the-laws (out z r) (g, (LL.owes N.the-type N′.the-laws r (LL.owed N.the-type N′.the-laws r _ is), tt))
 
 module _ {M : Type 1} (𝓤 : URA M) (H : Heap 𝓤) (A : Atoms 𝓤) (W : Given 𝓤 H A) (at-mem : Memory → SProp 𝓤) (run : Routine → Fun 𝓤) (κ κ′ : Lft) (q q′ : Share)
@@ -138,7 +138,7 @@ module _ {M : Type 1} (𝓤 : URA M) (H : Heap 𝓤) (A : Atoms 𝓤) (W : Given
     tt,
   )
 
-  abbrev Said : Told → Bank → List ℕ → Type 0
+  abbrev Said : Report → Bank → List ℕ → Type 0
   Said r z zs = replayedPlace z r zs ≡ replayOf ts i n (controller h ys [])
 
   goes-ran : (ν l : ℕ) (δ : GName)
@@ -152,7 +152,7 @@ module _ {M : Type 1} (𝓤 : URA M) (H : Heap 𝓤) (A : Atoms 𝓤) (W : Given
       owned ! u32 (Is u32) (uint-makes 𝓤 H A W w32) i _ (refl, i-fits) $ fjoin ! $ move ! (2 ∷ 0 ∷ []) $ fjoin ! $ move ! (1 ∷ 0 ∷ []) $ fjoin ! $
       move ! (2 ∷ 0 ∷ []) $ fjoin ! $ move ! (1 ∷ 0 ∷ []) $ join ! $ frame ! $ done !
 
-  exits : (r : Told) (w : Val) (z : Bank) (zs : List ℕ) → Said r z zs → length zs ≡ length ys → Is B.the-row z (bank-val z ∷ []) → Is N.the-row r (w ∷ [])
+  exits : (r : Report) (w : Val) (z : Bank) (zs : List ℕ) → Said r z zs → length zs ≡ length ys → Is B.the-row z (bank-val z ∷ []) → Is N.the-row r (w ∷ [])
       → ent 𝓤 (⋆ 𝓤 H A ((‵ (flft κ q) ⊛ (‵ (flft κ′ q′) ⊛ ‵ ftrue)) ∷ ‵ (finally u32 γ′ zs) ∷ ‵ Own ∷ [])) (Post (out-val (out z r)))
   exits r w z zs e l gz is =
       qed W ((‵ (flft κ q) ⊛ (‵ (flft κ′ q′) ⊛ ‵ ftrue)) ∷ ‵ (finally u32 γ′ zs) ∷ ‵ Own ∷ []) ∵
@@ -198,7 +198,7 @@ module _ {M : Type 1} (𝓤 : URA M) (H : Heap 𝓤) (A : Atoms 𝓤) (W : Given
         (and-then ! (load ! (from ! (stop !)) (look ! 6 refl))
         (and-then ! (load ! (from ! (stop !)) (look ! 19 refl))
         (and-then ! (load ! (from ! (stop !)) (look ! 17 refl)) (and-then ! (load ! (from ! (stop !)) (look ! 15 refl)) (no-more !)))))) (λ w.
-        use1 W (later (some (λ (r : Told).
+        use1 W (later (some (λ (r : Report).
         ((‵ (flft (ν ∷ []) fullShare) ⊛ (‵ (flft κ q) ⊛ (‵ (flft κ′ q′) ⊛ ‵ ftrue))) ⊛ ‵ (N.the-row .own r (w ∷ []))) ⊛ raw (ensured 𝓤 H A ran.ended
         (ran.clauses 𝓤 H A at-mem run) (ν ∷ [], (κ, (κ′, tt))) (loan l₆ δ, (x, (y, (i, (n, tt))))) tt r)))) (id⊢ 𝓤 _) $ await ! tt $ pick ! (λ r.
         split ! $ move ! (1 ∷ []) $

@@ -172,7 +172,7 @@ counted (suc n) bytes i a = go (recordAt bytes i) (λ b. counted n bytes (suc i)
     go (Named k) rest = let h = rest (did k a) in omega (arith, h)
     go Skipped rest = omega arith
 
-few : (limit : ℕ) (bytes : List ℕ) → records.within limit bytes ≤ length bytes
+few : (limit : ℕ) (bytes : List ℕ) → records.wholeRecords limit bytes ≤ length bytes
 few limit bytes = go (ltb limit (length bytes / 12)) refl
   where
     go : (b : Bool) → ltb limit (length bytes / 12) ≡ b → cond b limit (length bytes / 12) ≤ length bytes
@@ -185,7 +185,7 @@ few-done file i limit l = go (lookNumber file i) refl
     go : (x : ℕ) → lookNumber file i ≡ x → replayOf file i limit l .told .count ≤ 0x1000000
     go zero e =
         let r = ap (λ (x : Replay). x .told .count) (plays file i limit l (section file i) refl e) in
-        let n = counted (records.within limit (section file i)) (section file i) 0 (replayBegun 0 l) in
+        let n = counted (records.wholeRecords limit (section file i)) (section file i) 0 (replayBegun 0 l) in
         let k = few limit (section file i) in
         let s = short file i in
         omega (arith, r, n, k, s)

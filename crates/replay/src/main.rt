@@ -9,7 +9,7 @@ use stream_model::Stage;
 
 // The bank, what is to come, and how many bytes at the front of the buffer were not used; how many answers were
 // written; whether there may be more to read; whether the input could be read, and all output be written.
-struct Turn {
+struct Progress {
     bank: Bank,
     stage: Stage,
     held: usize,
@@ -62,14 +62,14 @@ fn turn(
     buf: &mut [u8],
     out: &mut [u8],
     answers: u64,
-) -> Turn
+) -> Progress
     requires { ⌜ (held < 518) × (length (now buf) ≡ 24576) × (length (now out) ≡ 24588) ⌝ }
     ensures { λ r. ⌜ r .held < 518 ⌝ }
 {
     let filled = fill(buf, held);
     let have = filled.have;
     if have == held {
-        return Turn {
+        return Progress {
             bank: b,
             stage: stage,
             held: held,
@@ -87,7 +87,7 @@ fn turn(
     buffer::shift(buf, used, rest);
     let next = f.bank;
     let to_come = f.stage;
-    Turn {
+    Progress {
         bank: next,
         stage: to_come,
         held: rest,

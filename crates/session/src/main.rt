@@ -8,7 +8,7 @@ use lines::Reading;
 
 // The bank and the line so far; how many answers were written; whether there may be more to read; whether the input
 // could be read, and all output be written.
-struct Turn {
+struct Progress {
     bank: Bank,
     line: Reading,
     answers: u64,
@@ -33,13 +33,13 @@ fn output_failed(answers: u64) {
 }
 
 // The next piece of the input.
-fn turn(b: Bank, line: Reading, store: &mut [u32], out: &mut [u8], answers: u64) -> Turn
+fn turn(b: Bank, line: Reading, store: &mut [u32], out: &mut [u8], answers: u64) -> Progress
     requires { ⌜ 49152 ≤ length (now out) ⌝ }
 {
     let mut piece = [0u8; 4096];
     let got = libc::read(0, &mut piece);
     if got <= 0 {
-        return Turn {
+        return Progress {
             bank: b,
             line: line,
             answers: answers,
@@ -55,7 +55,7 @@ fn turn(b: Bank, line: Reading, store: &mut [u32], out: &mut [u8], answers: u64)
     let sent = notice::write_counted(1, &out[..m]);
     let next = f.bank;
     let rest = f.line;
-    Turn {
+    Progress {
         bank: next,
         line: rest,
         answers: notice::counted(answers, sent),

@@ -38,5 +38,5 @@ pub worked : printed workedSession
     ∷ 0x30 ∷ 0x30 ∷ 0x30 ∷ 0x30 ∷ 0x30 ∷ 0x32 ∷ 0x30 ∷ 0x30 ∷ 0x20 ∷ 0x30 ∷ 0x30 ∷ 0x0a
     ∷ 0x30 ∷ 0x30 ∷ 0x30 ∷ 0x30 ∷ 0x30 ∷ 0x32 ∷ 0x30 ∷ 0x30 ∷ 0x20 ∷ 0x30 ∷ 0x30 ∷ 0x0a
     ∷ 0x30 ∷ 0x30 ∷ 0x30 ∷ 0x30 ∷ 0x30 ∷ 0x30 ∷ 0x30 ∷ 0x30 ∷ 0x20 ∷ 0x30 ∷ 0x33 ∷ 0x0a ∷ []
-unfolding entries capsOk marksOk sizesOk setUp queuesOk regsOk flagsOk phaseOk burstOk openOk allCarried readsIn queuesClear controlClear resetOk wellFormed kindOf isEntdaa isRead isWrite lengthOf begun receiptWord entryWord named offload entryAt enable start send receive allowed padded finish interrupt request takeAddress shortInBurst trigger burstSend burstReceive burstFinish step onRing onStore guardRings ones letters.forms letters.find sessionFed
+unfolding entries capsOk marksOk sizesOk setUp queuesOk regsOk flagsOk phaseOk burstOk openOk allCarried readsIn queuesClear controlClear resetOk wellFormed kindOf isEntdaa isRead isWrite lengthOf begun receiptWord entryWord named offload entryAt enable start send receive allowed padded finish interrupt request takeAddress shortInBurst trigger burstSend burstReceive burstFinish step onRing onStore guardRings ones letters.forms letters.formWith sessionFed
 worked = refl

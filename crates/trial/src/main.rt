@@ -298,7 +298,7 @@ fn feed(board: Board, store: &mut [u32], line: Line, piece: &[u8], out: &mut [u8
 }
 
 // The board and the line so far; whether there may be more to read; whether all text was written.
-struct Turn {
+struct Progress {
     board: Board,
     line: Line,
     more: bool,
@@ -306,13 +306,13 @@ struct Turn {
 }
 
 // The next piece of the input.
-fn turn(board: Board, line: Line, store: &mut [u32], out: &mut [u8]) -> Turn
+fn turn(board: Board, line: Line, store: &mut [u32], out: &mut [u8]) -> Progress
     requires { ⌜ 49152 ≤ length (now out) ⌝ }
 {
     let mut piece = [0u8; 4096];
     let got = libc::read(0, &mut piece);
     if got <= 0 {
-        return Turn {
+        return Progress {
             board: board,
             line: line,
             more: false,
@@ -325,7 +325,7 @@ fn turn(board: Board, line: Line, store: &mut [u32], out: &mut [u8]) -> Turn
     let ok = io::write_all(1, &out[..m]);
     let next = f.board;
     let rest = f.line;
-    Turn {
+    Progress {
         board: next,
         line: rest,
         more: ok,

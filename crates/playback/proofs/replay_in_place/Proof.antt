@@ -51,8 +51,8 @@ use Rattle.playback_model.specs.Replay.{replayOf}
 use Rattle.replayed.specs.Given.{replayedOut}
 use Rattle.bank.proofs.Bank as B
 use Rattle.bank.proofs.Bank.Laws as B′
-use Rattle.playback_model.proofs.Told as N
-use Rattle.playback_model.proofs.Told.Laws as N′
+use Rattle.playback_model.proofs.Report as N
+use Rattle.playback_model.proofs.Report.Laws as N′
 use Rattle.replayed.proofs.Replayed as O
 use Rattle.replayed.proofs.Replayed.Laws as O′
 use Rattle.playback.proofs.replay as ran

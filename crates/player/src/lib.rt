@@ -3,8 +3,8 @@
 ghost use mathlib.Core.Path.{_≡_};
 ghost use Prim.Native.Nat.{_*_, _≤_};
 ghost use lib.ListN.{length};
-ghost use Rattle.model.specs.View.{tables};
 ghost use Rattle.answer.specs.Given.{bankWith, controller};
+ghost use Rattle.answer.specs.Memory.{memory, lent, left, controllerOf};
 ghost use Rattle.faults.specs.Faults.{faultNumber};
 ghost use Rattle.record_model.specs.Record.{eachRecord};
 ghost use Rattle.playback_model.specs.Replay.{replayBegun, did, wrong, played};
@@ -30,8 +30,8 @@ fn replay_parts(
     records: &[u8],
     n: usize,
 ) -> Reached
-    requires { ⌜ (fault ≡ faultNumber (bankWith st heads (tables (now flags) (now commands) (now payloads) (now output))) (length (now store))) × (12 * n ≤ length (now records)) ⌝ }
-    ensures { λ r. ⌜ replayReached r (tables (now (flags .exit)) (now (commands .exit)) (now (payloads .exit)) (now (output .exit))) (now (store .exit)) ≡ eachRecord did wrong n (now (records .entry)) 0 (replayBegun 0 (controller (bankWith st heads (tables (now (flags .entry)) (now (commands .entry)) (now (payloads .entry)) (now (output .entry)))) (now (store .entry)) (now (output .entry)))) ⌝ }
+    requires { ⌜ (let m = memory flags commands payloads store output in fault ≡ faultNumber (bankWith st heads (m .tables)) (length (m .store))) × (12 * n ≤ length (now records)) ⌝ }
+    ensures { λ r. ⌜ (let m = left flags commands payloads store output in replayReached r (m .tables) (m .store) ≡ eachRecord did wrong n (now (records .entry)) 0 (replayBegun 0 (controllerOf st heads (lent flags commands payloads store output)))) ⌝ }
 {
     let mut s = st;
     let mut h = heads;

@@ -3,11 +3,11 @@
 // makes them once.
 ghost use mathlib.Core.Path.{_≡_};
 ghost use lib.ListN.{length};
-ghost use Rattle.model.specs.View.{tables};
 ghost use Rattle.model.specs.Bursts.{decide};
 ghost use Rattle.model.specs.Engine.{step};
 ghost use Rattle.model.specs.Rings.{rings};
-ghost use Rattle.answer.specs.Given.{bankWith, controller, view, given, decided, Open};
+ghost use Rattle.answer.specs.Given.{bankWith, view, decided, Open};
+ghost use Rattle.answer.specs.Memory.{memory, lent, left, controllerOf, stepOf};
 ghost use Rattle.faults.specs.Faults.{faultNumber};
 use answer::Next;
 use bank::Heads;
@@ -26,7 +26,7 @@ fn serve(
     call: Call,
 ) -> Next
     requires { ⌜ Open st h (now commands) (now store) ⌝ }
-    ensures { λ y. ⌜ given y (tables (now (flags .exit)) (now (commands .exit)) (now (payloads .exit)) (now (output .exit))) (now (store .exit)) ≡ (let t = tables (now (flags .entry)) (now (commands .entry)) (now (payloads .entry)) (now (output .entry)) in decided st h t (now (store .entry)) (decide (view st h t (now (store .entry))) call)) ⌝ }
+    ensures { λ y. ⌜ (let m = lent flags commands payloads store output in stepOf y (left flags commands payloads store output) ≡ decided st h (m .tables) (m .store) (decide (view st h (m .tables) (m .store)) call)) ⌝ }
 {
     let e = decide::decide(st, h, flags, commands, payloads, store, output.len(), call);
     settle::settle(st, h, flags, commands, payloads, store, output, e)
@@ -44,8 +44,8 @@ pub fn step_parts(
     fault: u32,
     call: Call,
 ) -> Next
-    requires { ⌜ fault ≡ faultNumber (bankWith st h (tables (now flags) (now commands) (now payloads) (now output))) (length (now store)) ⌝ }
-    ensures { λ y. ⌜ given y (tables (now (flags .exit)) (now (commands .exit)) (now (payloads .exit)) (now (output .exit))) (now (store .exit)) ≡ step rings (controller (bankWith st h (tables (now (flags .entry)) (now (commands .entry)) (now (payloads .entry)) (now (output .entry)))) (now (store .entry)) (now (output .entry))) call ⌝ }
+    requires { ⌜ (let m = memory flags commands payloads store output in fault ≡ faultNumber (bankWith st h (m .tables)) (length (m .store))) ⌝ }
+    ensures { λ y. ⌜ stepOf y (left flags commands payloads store output) ≡ step rings (controllerOf st h (lent flags commands payloads store output)) call ⌝ }
 {
     if fault != 0 {
         return answer::refuse(st, h, fault);

@@ -3,10 +3,10 @@
 ghost use mathlib.Core.Path.{_≡_};
 ghost use Rattle.bank.specs.Queues.{queuesOf};
 ghost use Rattle.bank.specs.Ready.{Ready};
-ghost use Rattle.model.specs.View.{tables};
 ghost use Rattle.model.specs.Rings.{viewQueues};
 ghost use Rattle.model.specs.Fits.{AllFit};
-ghost use Rattle.answer.specs.Given.{given, served};
+ghost use Rattle.answer.specs.Given.{served};
+ghost use Rattle.answer.specs.Memory.{lent, left, stepOf};
 ghost use Rattle.effect.specs.Effects.{opsOf, effectOf};
 use answer::Next;
 use bank::Heads;
@@ -25,7 +25,7 @@ pub fn settle(
     e: Effect,
 ) -> Next
     requires { ⌜ (let q = queuesOf (st .caps) (st .levels) h in (Ready q (now store)) × (AllFit (opsOf (e .ops)) (viewQueues q (now store)))) ⌝ }
-    ensures { λ y. ⌜ given y (tables (now (flags .exit)) (now (commands .exit)) (now (payloads .exit)) (now (output .exit))) (now (store .exit)) ≡ (let t = tables (now (flags .entry)) (now (commands .entry)) (now (payloads .entry)) (now (output .entry)) in served st h t (now (store .entry)) (effectOf e t)) ⌝ }
+    ensures { λ y. ⌜ (let m = lent flags commands payloads store output in stepOf y (left flags commands payloads store output) ≡ served st h (m .tables) (m .store) (effectOf e (m .tables))) ⌝ }
 {
     let t = e.table;
     table_entries::put_table(t, flags, commands, payloads, output);

@@ -8,6 +8,7 @@ ghost use Prim.Native.Nat.{ℕ, _*_, _≤_};
 ghost use lib.ListN.{length};
 ghost use Rattle.model.specs.View.{tables};
 ghost use Rattle.answer.specs.Given.{bankWith, controller};
+ghost use Rattle.answer.specs.Memory.{memory, lent, left, controllerOf};
 ghost use Rattle.faults.specs.Faults.{faultNumber};
 ghost use Rattle.record_model.specs.Record.{eachRecord};
 ghost use Rattle.stream_model.specs.Stream.{recordsPrinted, said, met, lines};
@@ -46,8 +47,8 @@ fn show_parts(
     n: usize,
     out: &mut [u8],
 ) -> Lines
-    requires { ⌜ (fault ≡ faultNumber (bankWith st heads (tables (now flags) (now commands) (now payloads) (now output))) (length (now store))) × (12 * n ≤ length (now records)) × (12 * n ≤ length (now out)) ⌝ }
-    ensures { λ r. ⌜ (shownParts r (tables (now (flags .exit)) (now (commands .exit)) (now (payloads .exit)) (now (output .exit))) (now (store .exit)) (now (out .exit)) ≡ eachRecord said met n (now (records .entry)) 0 (recordsPrinted (controller (bankWith st heads (tables (now (flags .entry)) (now (commands .entry)) (now (payloads .entry)) (now (output .entry)))) (now (store .entry)) (now (output .entry))) [] false)) × (r .count ≤ 12 * n) ⌝ }
+    requires { ⌜ (let m = memory flags commands payloads store output in fault ≡ faultNumber (bankWith st heads (m .tables)) (length (m .store))) × (12 * n ≤ length (now records)) × (12 * n ≤ length (now out)) ⌝ }
+    ensures { λ r. ⌜ ((let m = left flags commands payloads store output in shownParts r (m .tables) (m .store) (now (out .exit)) ≡ eachRecord said met n (now (records .entry)) 0 (recordsPrinted (controllerOf st heads (lent flags commands payloads store output)) [] false))) × (r .count ≤ 12 * n) ⌝ }
 {
     let mut s = st;
     let mut h = heads;

@@ -30,6 +30,12 @@ receipt-requires c κs = let a = c .before .before .before .before in (a .pre .1
 counted-requires : tie.Need-counted-requires
 counted-requires c κs = search needs
 
+removed-words-requires : tie.Need-removed-words-requires
+removed-words-requires c κs = search needs
+
+does-remove-requires : tie.Need-does-remove-requires
+does-remove-requires c κs = search needs
+
 receipt-and-requires : tie.Need-receipt-and-requires
 receipt-and-requires c κs = search needs
 
@@ -38,9 +44,16 @@ done-requires c κs = search needs
 
 returns-2 : tie.Need-returns-2
 unfolding finish
-returns-2 c = λ t f. let i = c .before .before .before .before .before .before .before in
-    let a = c .before .before .before .before .before .before .before .before .before in
-    rw (c .done .ensures t, c .before .receipt-and .ensures, c .before .before .counted .ensures, c .before .before .before .before .receipt .ensures, c .before .before .before .before .before .is-padded .ensures, c .before .before .before .before .before .before .transfer-of .ensures) (served-as (λ v. finish v (a .args .code)) (seen (a .args .st) t f) refl (sym (i .before .finish-number .ensures t f) ∙ i .if1 .left))
+returns-2 c = λ t f. let o = c .before in
+    let d = o .before in
+    let n = d .before in
+    let k = n .before .before in
+    let r = k .before .before in
+    let p = r .before in
+    let x = p .before in
+    let i = x .before in
+    let a = i .before .before in
+    rw (c .done .ensures t, o .receipt-and .ensures, d .does-remove .ensures, n .removed-words .ensures, k .counted .ensures, r .receipt .ensures, p .is-padded .ensures, x .transfer-of .ensures) (served-as (λ v. finish v (a .args .code)) (seen (a .args .st) t f) refl (sym (i .before .finish-number .ensures t f) ∙ i .if1 .left))
 
 pub finish-spec : {M : Type 1} → statement M
 finish-spec =
@@ -53,6 +66,8 @@ finish-spec =
     is-padded-requires
     receipt-requires
     counted-requires
+    removed-words-requires
+    does-remove-requires
     receipt-and-requires
     done-requires
     returns-2)

@@ -4,7 +4,7 @@ from thymewax import Command, Number
 from thymewax.calls import TRIGGER
 
 from tests.scripts.bank import CARRIED_LENGTH, CMDR, QUEUES, SDI, SDO, Transfer, carried
-from tests.scripts.endings import NO_ERROR
+from tests.scripts.endings import NO_ERROR, UNSENT
 from tests.scripts.reached.followed import BURST, DIRECT, DONE, Followed
 
 # The bits of a length that a length up to CARRIED_LENGTH has.
@@ -124,6 +124,8 @@ class Bursts(Followed):
             self.note('burst, write of %d, all sent' % transfer.length)
         if not transfer.read and not transfer.moved:
             self.empty_write_before = True
+            if code in UNSENT and transfer.length and self.level(SDO):
+                self.note('burst, write ended with %d, data stays in SDO' % code)
         for queue in (CMDR, SDI):
             if self.room(queue) == 0:
                 self.note('burst finish, %s full' % QUEUES[queue])

@@ -3,7 +3,7 @@
 from collections.abc import Callable, Sequence
 
 from inputs import Made
-from ledger import Entry
+from ledger import Data, Entry
 from thymewax import (OFFLOAD_CMD, OFFLOAD_SDO, AddressWord, Call, Ccc, Command, Config, Device,
                       Image, Interrupt, Irq, Kind, Number, Ops, Phase, Receipt, Register, Status,
                       name_of)
@@ -19,6 +19,9 @@ PHASES = {
 KINDS = {
     Kind.PRIVATE: 'private', Kind.DIRECT_CCC: 'direct CCC', Kind.BROADCAST_CCC: 'broadcast CCC',
 }
+
+# How many words of a list are named.
+NAMED_WORDS = 8
 
 
 def count(number: int, noun: str) -> str:
@@ -225,12 +228,22 @@ def given(made: Made) -> str:
     return GIVEN.get(made.call.letter, lambda made: '')(made)
 
 
+def removed(words: Sequence[Data]) -> str:
+    """The words that a finish took out of SDO, the first of them where they are many."""
+    named = ['%08x (call %d)' % (one.word, one.written) for one in words[:NAMED_WORDS]]
+    if len(words) > NAMED_WORDS:
+        named.append('and %d more' % (len(words) - NAMED_WORDS))
+    return 'removed from SDO for it: %s' % ', '.join(named)
+
+
 def told(made: Made, asked: str, about: Entry | None) -> str:
-    """What a call was, what it gave, and the command that it was about."""
+    """What a call was, what it gave, the command that it was about, and of a finish the words that
+    left SDO unsent."""
     if made.answer.refused or made.call.letter == 'W':
         return asked
     whose = about and '%s (call %d)' % (command(about.words), about.written)
-    more = '; '.join(filter(None, [given(made), whose]))
+    gone = removed(about.removed) if made.call.letter == 'F' and about and about.removed else ''
+    more = '; '.join(filter(None, [given(made), whose, gone]))
     return '%s: %s' % (asked, more) if more else asked
 
 

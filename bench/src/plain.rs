@@ -479,10 +479,14 @@ impl Bank {
         }
         let mut moved = 0;
         let mut part = None;
+        let mut unsent = 0;
         let allowed = match &self.phase {
             Phase::Idle => return refuse(NO_TRANSFER),
             Phase::Writing(transfer) => {
                 moved = transfer.moved;
+                if let 4 | 6 | 8 = code {
+                    unsent = u32::from(transfer.length).div_ceil(4);
+                }
                 transfer.may_end(code, false)
             }
             Phase::Reading(transfer) => {
@@ -508,6 +512,7 @@ impl Bank {
             let base = self.sdi_at();
             self.sdi.push(store, base, word);
         }
+        self.sdo.drop_words(unsent.min(self.sdo.level));
         let receipt = u32::from(code) << 20 | u32::from(moved) << 8 | u32::from(self.sync);
         self.cmdr.push(store, self.cmd.cap, receipt);
         self.sync = self.sync.wrapping_add(1);

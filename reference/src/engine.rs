@@ -128,6 +128,12 @@ impl Queue {
         self.words.pop_front()
     }
 
+    /// Drops the first words, all of them if there are fewer.
+    fn remove(&mut self, count: u32) {
+        let count = count.min(self.level());
+        self.words.drain(..count as usize);
+    }
+
     /// Forgets all words (01, 'The part of the controller we model').
     fn reset(&mut self) {
         self.words.clear();
@@ -400,6 +406,20 @@ impl Transfer {
             _ => false,
         }
     }
+
+    /// How many words the finish of a direct transfer removes from SDO: a failed write has
+    /// moved no byte, so those for its whole length, if they are there (02 §2).
+    fn words_removed_by(&self, code: u8) -> u32 {
+        match code {
+            4 | 6 | 8 if self.is_write() => words_of_bytes(self.command.length),
+            _ => 0,
+        }
+    }
+}
+
+/// How many words so many payload bytes fill, the last one perhaps in part.
+fn words_of_bytes(bytes: u32) -> u32 {
+    bytes.div_ceil(4)
 }
 
 /// Up to four bytes as a word, the first one in bits 31:24, zeros behind the last (01,
@@ -874,9 +894,9 @@ impl Bank {
     }
 
     /// Ends the transfer: the bytes that fill no word go to SDI, the receipt to CMDR, both
-    /// or neither; it shows the receipt (01, 'Bus events'). In a burst there is no receipt:
-    /// the bytes of a read go to the output, and the next transfer opens, whatever the code
-    /// (02 §3).
+    /// or neither; it shows the receipt (01, 'Bus events'). The data of a failed write leaves
+    /// SDO (02 §2). In a burst there is no receipt: the bytes of a read go to the output, and
+    /// the next transfer opens, whatever the code (02 §3).
     pub(crate) fn finish(&mut self, code: u8, output: &mut [u32]) -> Answer {
         if !self.is_well_formed() {
             return refuse(NOT_WELL_FORMED);
@@ -911,6 +931,7 @@ impl Bank {
             self.sdi.push(word_of_bytes(&transfer.gathered));
         }
         let receipt = receipt_word(code, transfer.moved, self.receipt_sync);
+        self.sdo.remove(transfer.words_removed_by(code));
         self.queue_receipt(receipt);
         self.transfer = None;
         done(receipt)

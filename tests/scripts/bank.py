@@ -6,7 +6,7 @@ the fields of words are those of the Python package.
 """
 
 from tests.scripts.endings import (ALL_MOVED, ENDINGS, NO_BYTES, NO_REQUEST, NONE_MOVED,
-                                   PART_MOVED, kind_name)
+                                   PART_MOVED, UNSENT, kind_name)
 from thymewax import OFFLOAD_CMD, OFFLOAD_SDO, Ccc, Command, Device, Ops, Register
 from thymewax.formats import ENTDAA
 
@@ -74,6 +74,14 @@ class Transfer:
     def endings(self):
         """The codes that end it (`finish.codes`)."""
         return ENDINGS[self.kind][self.state()]
+
+    def needed(self):
+        """The words that its payload needs (`units.apart`)."""
+        return -(-self.length // 4)
+
+    def removes(self, code):
+        """Whether its payload leaves SDO as it ends with the code (`finish.removal`)."""
+        return self.write and self.place is None and code in UNSENT
 
     def part(self):
         """Whether bytes are gathered or left in a part of a word."""

@@ -11,6 +11,8 @@ NO_REQUEST, REQUEST_OPEN, REQUEST_SERVED = 'no request made', 'request open', 'r
 CODES = range(16)
 # The codes that receipts have, by their names (`receipt.codes`).
 NO_ERROR, CE0, CE2, NACK, UNKNOWN = 0, 1, 4, 6, 8
+# Those with which a write takes its payload out of SDO (`finish.removal`).
+UNSENT = (CE2, NACK, UNKNOWN)
 
 
 def payload(no_bytes, none_moved, part_moved, all_moved):

@@ -146,11 +146,46 @@ CAUSES_TOLD = [
     ('X 5', 'receive 05', refused(Number.NOT_ATTACHED, 'it was not when the transfer opened')),
     ('W 0d4 400210', 'write CMD_FIFO: first word of a CCC'),
 ]
+# Writes that fail: the words that leave SDO, and the command that they were for.
+FAILED_TOLD = [
+    ('W 40 0', 'write ENABLE: release'),
+    ('W 180 1102', 'write DEV_CHAR: device 08, attached'),
+    ('W 0dc 01d00000', 'write SDO_FIFO: bytes 01 d0 00 00'),
+    ('W 0dc a5c30000', 'write SDO_FIFO: bytes a5 c3 00 00'),
+    ('W 0d4 210', 'write CMD_FIFO: private write to 08, 2 bytes'),
+    ('S', 'start: private write to 08, 2 bytes (call 5)'),
+    ('F 6', 'finish with NACK: receipt NACK, 0 bytes moved, sync 0; private write to 08, 2 bytes '
+     '(call 5); removed from SDO for it: 01d00000 (call 3)'),
+    ('R 0d8', 'read CMDR_FIFO: NACK, 0 bytes moved, sync 0; private write to 08, 2 bytes (call 5)'),
+    ('W 0d4 210', 'write CMD_FIFO: private write to 08, 2 bytes'),
+    ('S', 'start: private write to 08, 2 bytes (call 9)'),
+    ('T', 'send: a5, byte 1 of 2'),
+    ('T', 'send: c3, byte 2 of 2'),
+    ('F 0', 'finish with no error: receipt no error, 2 bytes moved, sync 1; private write to 08, '
+     '2 bytes (call 9)'),
+    ('W 0dc 11111111', 'write SDO_FIFO: bytes 11 11 11 11'),
+    ('W 0dc 22222222', 'write SDO_FIFO: bytes 22 22 22 22'),
+    ('W 0d4 912', 'write CMD_FIFO: private write to 09, 9 bytes'),
+    ('S', 'start: private write to 09, 9 bytes (call 16)'),
+    ('F 8', 'finish with unknown address: receipt unknown address, 0 bytes moved, sync 2; private '
+     'write to 09, 9 bytes (call 16); removed from SDO for it: 11111111 (call 14), '
+     '22222222 (call 15)'),
+    ('W 0dc 33333333', 'write SDO_FIFO: bytes 33 33 33 33'),
+    ('W 0d4 411', 'write CMD_FIFO: private read from 08, 4 bytes'),
+    ('S', 'start: private read from 08, 4 bytes (call 20)'),
+    ('F 6', 'finish with NACK: receipt NACK, 0 bytes moved, sync 3; private read from 08, 4 bytes '
+     '(call 20)'),
+]
 # The end of the first log.
 SUMMARY = '''commands taken: 4; started: 4; finished: 3; receipts read: 1
   call 24, private read from 09, 1 byte: no receipt read, lost by the reset of call 45
   call 28, direct CCC 8b write to 08, 2 bytes: no receipt read, lost by the reset of call 45
   call 38, ENTDAA: no receipt read, lost by the reset of call 45
+'''
+FAILED = '''commands taken: 4; started: 4; finished: 4; receipts read: 1
+  call 9, private write to 08, 2 bytes: its receipt waits in CMDR since call 13
+  call 16, private write to 09, 9 bytes: its receipt waits in CMDR since call 18
+  call 20, private read from 08, 4 bytes: its receipt waits in CMDR since call 22
 '''
 NO_COMMANDS = 'commands taken: 0; started: 0; finished: 0; receipts read: 0\n'
 # The lone first word of a CCC is no command yet.
@@ -170,7 +205,7 @@ def explained(*arguments, data, status=0):
 def words(_):
     """The words of each line, and of the end."""
     for table, options, end in ((TOLD, [], SUMMARY), (BURST_TOLD, ['--bursts'], NO_COMMANDS),
-                                (CAUSES_TOLD, ['--bursts'], PART)):
+                                (CAUSES_TOLD, ['--bursts'], PART), (FAILED_TOLD, [], FAILED)):
         log = explained(*options, data='\n'.join(line for line, *_ in table).encode())
         lines = iter(log.split('\n'))
         for line, *told in table:
@@ -212,15 +247,20 @@ def logs(program):
 
 def ledgers(_):
     """At every call the commands that wait are the words of CMD, those with an unread receipt are
-    as many as CMDR has, and one is open where a transfer is."""
+    as many as CMDR has, one is open where a transfer is, and the data words are those of SDO."""
+    removed = Counter()
     for seed in SEEDS:
         model, ledger = Model.set_up(), Ledger()
         for made in inputs.run(model, [session.calls(generated(seed, CALLS))]):
-            ledger.follow(made)
+            about = ledger.follow(made)
+            if about and made.call.letter == 'F':
+                removed[len(about.removed)] += 1
             image = made.after
             equal('ledgers', made.number, tuple(word for entry in ledger.waiting
                                                 for word in entry.words),
                   image.queue('cmd', model.store()))
+            equal('ledgers', made.number, tuple(data.word for data in ledger.data),
+                  image.queue('sdo', model.store()))
             equal('ledgers', made.number, (len(ledger.unread), ledger.open is not None),
                   (image.levels.cmdr, image.transfer.phase != 0))
         entries = [*ledger.unread, *ledger.waiting, *(entry for entry, _ in ledger.lost)]
@@ -230,6 +270,7 @@ def ledgers(_):
         equal('ledgers', 'parts of commands', all(entry.whole for entry in entries), False)
         equal('ledgers', 'something to count', min(ledger.receipts_read, len(ledger.lost)) > 10,
               True)
+    equal('ledgers', 'words removed', min(removed[count] for count in range(5)) > 0, True)
 
 
 def differences(_):

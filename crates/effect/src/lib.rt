@@ -5,7 +5,7 @@ ghost use mathlib.Core.Path.{_≡_};
 ghost use mathlib.Core.Bool.{cond, not};
 ghost use Rattle.number.specs.Names as number;
 ghost use Rattle.model.specs.View.{Tables, each};
-ghost use Rattle.model.specs.Decision.{keep, clear, push, keepAll, unchanged, _withNumber_};
+ghost use Rattle.model.specs.Decision.{keep, clear, take, push, keepAll, unchanged, _withNumber_};
 ghost use Rattle.effect.specs.Effects.{opOf, opsOf, tablesBy, effectOf};
 ghost use Rattle.effect.specs.Seen.{Fronts, seen};
 use bank::Answer;
@@ -183,16 +183,27 @@ fn push_if(comes: bool, w: u32) -> Op
     Op::Keep
 }
 
-// A receipt to CMDR, and where `comes` holds the part word of a read to SDI (`finish.receipt`).
-pub fn receipt_and(receipt: u32, comes: bool, w: u32) -> Ops
-    ensures { λ r. ⌜ opsOf r ≡ each keep (push receipt) keep (cond comes (push w) keep) keep ⌝ }
+fn take_if(comes: bool, n: u32) -> Op
+    ensures { λ o. ⌜ opOf o ≡ cond comes (take n) keep ⌝ }
 {
+    if comes {
+        return Op::Take(n);
+    }
+    Op::Keep
+}
+
+// A receipt to CMDR; where `removes` holds, `n` words out of SDO (`finish.removal`); where `comes` holds, the part word
+// of a read to SDI (`finish.receipt`).
+pub fn receipt_and(receipt: u32, removes: bool, n: u32, comes: bool, w: u32) -> Ops
+    ensures { λ r. ⌜ opsOf r ≡ each keep (push receipt) (cond removes (take n) keep) (cond comes (push w) keep) keep ⌝ }
+{
+    let d = take_if(removes, n);
     let o = push_if(comes, w);
     Ops {
         any: true,
         cmd: Op::Keep,
         cmdr: Op::Push(receipt),
-        sdo: Op::Keep,
+        sdo: d,
         sdi: o,
         ibi: Op::Keep,
     }

@@ -1,18 +1,20 @@
-// The finish outside a burst, as a decision (`finish.tests`, `finish.receipt`), of a code that passed 18. It knows the
-// state and the code.
+// The finish outside a burst, as a decision (`finish.tests`, `finish.receipt`, `finish.removal`), of a code that passed
+// 18. It knows the state and the code.
 ghost use mathlib.Core.Path.{_≡_};
 ghost use mathlib.Core.Bool.{true};
 ghost use Prim.Native.Nat.{_≤_, _<_};
 ghost use Rattle.bank.specs.Formed.{phaseOk};
 ghost use Rattle.model.specs.View.{Tables};
 ghost use Rattle.model.specs.Commands.{receiptWord};
-ghost use Rattle.model.specs.Calls.{finish, padded, receipted};
+ghost use Rattle.model.specs.Calls.{finish, padded, receipted, removed, removes};
 ghost use Rattle.effect.specs.Effects.{effectOf, verdict, number};
 ghost use Rattle.effect.specs.Seen.{Fronts, seen};
 use bank::Control;
 use bank::Phase;
 use bank::State;
+use bank::Transfer;
 use effect::Effect;
+use ring::Words;
 
 // Whether bytes of a read are left that fill no word: that word goes to SDI (`finish.receipt`).
 fn is_padded(p: Phase) -> bool
@@ -21,6 +23,24 @@ fn is_padded(p: Phase) -> bool
     let t = phases::transfer_of(p);
     let words = ring::words_for(t.moved);
     phases::is_reading(p) & (t.moved.0 / 4 < words.0)
+}
+
+// Whether the payload of the open transfer leaves SDO with it: a write that ends with 4, 6 or 8 (`finish.removal`).
+fn does_remove(p: Phase, code: u8) -> bool
+    ensures { λ r. ⌜ r ≡ removes p code ⌝ }
+{
+    phases::is_writing(p) & ((code == 4) | (code == 6) | (code == 8))
+}
+
+// How many words leave then, of `level` in SDO: as many as the commanded length needs, or all if there are fewer.
+fn removed_words(t: Transfer, level: Words) -> u32
+    ensures { λ r. ⌜ r ≡ removed t (level .0) ⌝ }
+{
+    let need = ring::words_for(t.length);
+    if need.0 < level.0 {
+        return need.0;
+    }
+    level.0
 }
 
 // The number of a finish, 0 where none of its tests holds (`finish.tests`).
@@ -57,7 +77,8 @@ fn counted(c: Control) -> Control
     next
 }
 
-// The open transfer ends with a code; its receipt is the value (`finish.receipt`).
+// The open transfer ends with a code; its receipt is the value (`finish.receipt`), and the payload of a write that failed
+// leaves SDO (`finish.removal`).
 pub fn finish(st: State, code: u8) -> Effect
     requires { ⌜ (phaseOk (st .phase) ≡ true) × (code ≤ 15) ⌝ }
     ensures { λ e. ⌜ ((t : Tables) (f : Fronts) → effectOf e t ≡ verdict (λ v. finish v code) (seen st t f)) ⌝ }
@@ -72,6 +93,8 @@ pub fn finish(st: State, code: u8) -> Effect
     let r = receipt(code, t.moved.0, st.control.sync);
     let g = st.regs;
     let c = counted(st.control);
-    let o = effect::receipt_and(r, pads, t.part);
+    let l = st.levels;
+    let n = removed_words(t, l.sdo);
+    let o = effect::receipt_and(r, does_remove(p, code), n, pads, t.part);
     effect::done(st, r, 0, g, c, Phase::Idle, o)
 }

@@ -1,4 +1,4 @@
--- The table of worked cases holds, so do the worked bursts, and five lists of calls come to their tallies: by computation.
+-- The table of worked cases holds, so do the worked removals and bursts, and five lists of calls come to their tallies: by computation.
 use mathlib.Core.Path.{refl}
 use lib.Count.{ones}
 use Rattle.ring.specs.Ring.{entries}
@@ -14,6 +14,7 @@ use Rattle.model.specs.Engine.{step, lending, final}
 use Rattle.model.specs.Rings.{onRing, onStore, guardRings}
 use Rattle.model.specs.Demand.{tally}
 use Rattle.model.specs.Cases.{answered, allHold, rounds, worked, thirdByte, releasedCase, fifthWrite, cccAlone, addresses, fiveBytes, interrupt8, receipt257, table, Hold}
+use Rattle.model.specs.Removal.{refusedOnce, roundedUp, fewer, noBytes, kinds, roundTheEnd, othersKeep, assignmentKeeps, noRoomKeeps, burstKeeps, sessions, RemovalsWork}
 use Rattle.model.specs.BurstLaw.{after}
 use Rattle.model.specs.BurstCases.{callsOf, sampling, attaching, refusing, openedBurst, shortened, BurstsWork}
 use Rattle.model.specs.Tallies.{sessionCalls, sessionTally, assignmentCalls, assignmentTally, writes, retryCalls, retryTally, droppedCalls, droppedTally, burstCalls, burstTally, Counted}
@@ -57,3 +58,7 @@ bursts-work =
       refused = record { answers = refl; output = refl };
       shorter = refl;
     }
+
+pub removals-work : RemovalsWork
+unfolding steps answered allHold refusedOnce roundedUp fewer noBytes kinds roundTheEnd othersKeep assignmentKeeps noRoomKeeps burstKeeps sessions RemovalsWork
+removals-work = refl

@@ -17,6 +17,7 @@ pub mod Accesses
 pub mod Demand
 pub mod Cases
 pub mod Driver
+pub mod Removal
 pub mod Endings
 pub mod Alone
 pub mod Inside

@@ -1,5 +1,5 @@
 -- Every effect fits its queues: a call that is not refused pushes only where there is room, and takes only what is there.
-use Prim.Native.Nat.{ℕ, zero, suc, _+_, _≤_}
+use Prim.Native.Nat.{ℕ, zero, suc, _+_, _≤_, min}
 use native.Mathlib.Omega.{arith}
 use mathlib.Core.Path.{_≡_}
 use mathlib.Core.Bool.{Bool, true, false, cond, not, _&&_, false≢true}
@@ -17,7 +17,7 @@ use Rattle.model.specs.Fits.{FitsIn, AllFit}
 use Rattle.model.specs.Decision.{QueueOp, keep, clear, take, push, push2, keepAll, only, Decision, effect}
 use Rattle.model.specs.Commands.{twoWords}
 use Rattle.model.specs.Registers.{Row, absent, shows, holds, pushes, takes, enables, acknowledges, row, enable, read, write}
-use Rattle.model.specs.Calls.{whole, wordCount, firstOfWord, lastOfWord, padded, start, send, receive, finish, interrupt, request, takeAddress}
+use Rattle.model.specs.Calls.{whole, wordCount, firstOfWord, lastOfWord, padded, removes, start, send, receive, finish, interrupt, request, takeAddress}
 use Rattle.model.specs.Bursts.{trigger, burstSend, burstReceive, burstFinish, decide}
 use Rattle.model.proofs.Tests.{Passed, of-two}
 
@@ -58,6 +58,10 @@ if-take : (b : Bool) (q : QueueView) → (b && empty q) ≡ false → FitsIn (co
 if-take true q e = one-there q e
 if-take false q e = tt
 
+if-remove : (b : Bool) (n : ℕ) (q : QueueView) → FitsIn (cond b (take (min n (q .level))) keep) q
+if-remove true n q = omega arith
+if-remove false n q = tt
+
 if-push : (b : Bool) (w : ℕ) (q : QueueView) → (b && full q) ≡ false → FitsIn (cond b (push w) keep) q
 if-push true w q e = room-there q e
 if-push false w q e = tt
@@ -94,7 +98,7 @@ unfolding finish
 finish-fits s code f =
     let e = f .1 .1 .1 .0 in
     let b = padded (s .phase) && full (s .queues .sdi) in
-    by-queue _ tt (room-there (s .queues .cmdr) (or-left (full (s .queues .cmdr)) b e)) tt (if-push (padded (s .phase)) _ (s .queues .sdi) (or-right (full (s .queues .cmdr)) b e)) tt
+    by-queue _ tt (room-there (s .queues .cmdr) (or-left (full (s .queues .cmdr)) b e)) (if-remove (removes (s .phase) code) _ (s .queues .sdo)) (if-push (padded (s .phase)) _ (s .queues .sdi) (or-right (full (s .queues .cmdr)) b e)) tt
 
 -- a burst touches no queue
 pub fits : (s : View) (c : Call) → Served s (decide s c)

@@ -1,6 +1,6 @@
 -- The seven events of 01, 'Bus events', outside a burst: each is one decision. Bursts.antt has send, receive and finish in an open burst,
 -- and `decide`, with 18 before each event's own tests.
-use Prim.Native.Nat.{ℕ, _+_, _-_, _*_, _/_, _%_, _^_}
+use Prim.Native.Nat.{ℕ, _+_, _-_, _*_, _/_, _%_, _^_, min}
 use mathlib.Core.Bool.{Bool, true, false, cond, not, _&&_, _||_}
 use lib.Dec.{leb, ltb, eqb}
 use lib.Count.{ones}
@@ -126,8 +126,18 @@ padded p = reading p && ltb (transfer p .moved .0 / 4) (wordsFor (transfer p .mo
 abbrev pub receipted : Control → Control
 receipted c = record { held = c .held; sync = (c .sync + 1) % 256; ibisync = c .ibisync; cmdrpending = true; ibipending = c .ibipending; daapending = c .daapending; burst = c .burst }
 
--- `finish.tests`, `finish.receipt`. Room for both words is tested before either is pushed. SDO keeps its words (`finish.leaves`), and the
--- rest of a write's part word goes with the transfer (`send.rest`).
+-- `finish.removal`: a write that ends with 4, 6 or 8 takes its payload out of SDO. ENTDAA is no write (`command.entdaa`), and a burst ends
+-- by `burstFinish`.
+abbrev pub removes : Phase → ℕ → Bool
+removes p code = writing p && (eqb code 4 || eqb code 6 || eqb code 8)
+
+-- the words that leave, of `level` in SDO: as many as the commanded length needs (`units.apart`), or all if there are fewer. Such a write
+-- has moved no byte (`finish.codes`), so none of its words has left SDO before.
+abbrev pub removed : Transfer → ℕ → ℕ
+removed t level = min (wordsFor (t .length) .0) level
+
+-- `finish.tests`, `finish.receipt`, `finish.removal`. Room for both words is tested before either is pushed. The rest of a write's part
+-- word goes with the transfer (`send.rest`).
 unfoldable pub finish : View → ℕ → Decision
 finish s code =
     let t = transfer (s .phase) in
@@ -137,7 +147,7 @@ finish s code =
     ∣ idle (s .phase) ⇒ number.noTransfer
     ∣ not (allowed (s .phase) code) ⇒ number.endingNotAllowed
     ∣ full (q .cmdr) || (padded (s .phase) && full (q .sdi)) ⇒ number.noRoom
-    ∣ does (unchanged s withValue r withControl receipted (s .control) withPhase Idle withQueues each keep (push r) keep (cond (padded (s .phase)) (push (t .part)) keep) keep)
+    ∣ does (unchanged s withValue r withControl receipted (s .control) withPhase Idle withQueues each keep (push r) (cond (removes (s .phase) code) (take (removed t (q .sdo .level))) keep) (cond (padded (s .phase)) (push (t .part)) keep) keep)
 
 -- ── Interrupt request ─────────────────────────────────────────────────────────────────────────────────────────
 -- `interrupt.entry`, `source.interrupt`: an accepted interrupt raises the sync of the entries, modulo 256, and sets pending bit 6

@@ -14,5 +14,6 @@ pub mod Cases
 pub mod BurstCases
 pub mod Tallies
 pub mod Driver
+pub mod Removal
 pub mod Endings
 pub mod Fits

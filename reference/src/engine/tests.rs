@@ -2,6 +2,7 @@
 //! count of demand 3.
 
 mod bursts;
+mod failed_writes;
 
 use super::*;
 
@@ -442,16 +443,6 @@ fn send_takes_words() {
     assert_eq!(bank.send(&[]), done(9));
 }
 
-/// A failed write takes no word out of SDO (01, 'Bus events').
-#[test]
-fn not_acknowledged_write_keeps_sdo() {
-    let mut bank = with_device();
-    bank.write(0xdc, 0x0102_0304);
-    started(&mut bank, &[PRIVATE_WRITE_2]);
-    assert_eq!(bank.finish(6, &mut []), done(0x0060_0000));
-    assert_eq!(value_at(&mut bank, 0xc8), 3);
-}
-
 /// Three bytes still come when SDI is full; the fourth, and a finish, need a place (01,
 /// 'Bus events').
 #[test]
@@ -817,6 +808,12 @@ struct Count {
     offload_length: u32,
     /// Transfers of a burst that are still to come; demand 3 leaves them out (02 §3).
     burst_left: u32,
+    /// What SDO holds. Demand 3 does not ask for it.
+    sdo: VecDeque<u32>,
+    /// Words that failed writes removed from SDO (02 §2), and how many such writes found
+    /// fewer than their length needs.
+    removed: usize,
+    removed_short: usize,
 }
 
 impl Count {
@@ -854,10 +851,17 @@ impl Count {
             }
             return;
         }
+        if *call == Call::AddressTake && [DONE, WRONG_PARITY].contains(&answer.number) {
+            self.sdo.pop_front();
+        }
         if answer.number != DONE {
             return;
         }
         match *call {
+            Call::Write {
+                offset: 0xdc,
+                value,
+            } => self.sdo.push_back(value),
             Call::Write {
                 offset: 0x40,
                 value,
@@ -887,7 +891,7 @@ impl Count {
                 self.moved = 0;
                 self.start_values.push(answer.value);
             }
-            Call::Send | Call::Receive { .. } => self.note_payload(call),
+            Call::Send | Call::Receive { .. } => self.note_payload(call, answer.value),
             Call::AddressRequest { .. } | Call::AddressTake => {
                 assert!(self.open && is_entdaa(&self.open_command()));
             }
@@ -901,16 +905,21 @@ impl Count {
             *self = Count {
                 released: value & 1 == 0,
                 offload_length: self.offload_length,
+                removed: self.removed,
+                removed_short: self.removed_short,
                 ..Count::default()
             };
         }
     }
 
-    fn note_payload(&mut self, call: &Call) {
+    fn note_payload(&mut self, call: &Call, value: u32) {
         assert!(self.open);
         let command = self.open_command();
         assert!(!is_entdaa(&command));
         assert_eq!(command[0] & 1 == 0, *call == Call::Send);
+        if *call == Call::Send && self.moved.is_multiple_of(4) {
+            assert_eq!(self.sdo.pop_front().unwrap() >> 24, value);
+        }
         self.moved += 1;
     }
 
@@ -925,15 +934,28 @@ impl Count {
             command[0] >> 8 & 0xfff
         };
         assert!(self.moved <= length);
+        if !is_entdaa(&command) && command[0] & 1 == 0 && code != 0 {
+            self.note_failed_write(length);
+        }
         let sync = self.receipts.len() as u32 % 256;
         assert_eq!(receipt, u32::from(code) << 20 | self.moved << 8 | sync);
         self.receipts.push(receipt);
+    }
+
+    /// One word out of SDO for each four bytes, as long as there is one.
+    fn note_failed_write(&mut self, mut length: u32) {
+        while length > 0 && self.sdo.pop_front().is_some() {
+            self.removed += 1;
+            length = length.saturating_sub(4);
+        }
+        self.removed_short += usize::from(length > 0);
     }
 
     fn check(&self, bank: &Bank) {
         if !self.released {
             return;
         }
+        assert_eq!(bank.sdo.words, self.sdo);
         let commands = self.commands();
         let started = self.start_values.len();
         assert!(started <= commands.len());
@@ -1001,6 +1023,8 @@ fn random_calls_keep_demand_3() {
     let mut seen = [false; 1 + NOT_CARRIED as usize];
     let mut most_receipts = 0;
     let mut words_written = 0;
+    let mut removed = 0;
+    let mut removed_short = 0;
     for seed in 0..60 {
         let mut random = Random(seed);
         let numbers = SetupNumbers {
@@ -1045,6 +1069,8 @@ fn random_calls_keep_demand_3() {
             check_well_formed(&bank);
             most_receipts = most_receipts.max(count.receipts.len());
         }
+        removed += count.removed;
+        removed_short += count.removed_short;
     }
     // Every number but those that need a bank or store not well formed, a set-up or
     // a trace.
@@ -1063,4 +1089,5 @@ fn random_calls_keep_demand_3() {
     assert_eq!(not_seen, expected);
     assert!(most_receipts > 0);
     assert!(words_written > 500);
+    assert!(removed > 50 && removed_short > 10);
 }

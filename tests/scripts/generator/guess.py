@@ -140,6 +140,9 @@ class Guess(Bank):
             return
         self.sdi += part
         self.cmdr += 1
+        if transfer.removes(code):
+            for _ in range(min(transfer.needed(), len(self.sdo))):
+                self.sdo.popleft()
         self.transfer = None
 
     def interrupt(self):

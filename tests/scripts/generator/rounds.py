@@ -1,6 +1,7 @@
 """Rounds: a reset or a set-up, a scenario, and steps by weight."""
 
 from tests.scripts.generator.burst_cases import BurstCases
+from tests.scripts.generator.failed_writes import FailedWrites
 from tests.scripts.generator.no_calls import NoCalls
 from tests.scripts.generator.rings import Rings
 from tests.scripts.generator.set_ups import SetUps
@@ -40,7 +41,7 @@ TEST_OPEN_TABLES = [table + weighted(BURST_OPEN_STEPS) for table in OPEN_TABLES]
 TEST_HELD_TABLE = HELD_TABLE + weighted(BURST_HELD_STEPS)
 
 
-class Walk(Transfers, Rings, BurstCases, SetUps, NoCalls):
+class Walk(Transfers, Rings, BurstCases, FailedWrites, SetUps, NoCalls):
     """Rounds of steps and scenarios."""
 
     mood = 0
@@ -77,16 +78,21 @@ class Walk(Transfers, Rings, BurstCases, SetUps, NoCalls):
                 (self.burst if number % 4 == 1 else self.start_assignment)()
 
     def scenario(self, number):
-        scenarios = [self.assignments, self.rings, self.syncs, self.endings, self.long_transfer,
-                     self.device_tour]
+        scenarios = [self.assignments, self.rings, self.syncs, self.all_endings,
+                     self.long_transfer, self.device_tour]
         if self.test:
             self.rings()
-            scenarios = [self.assignments, self.syncs, self.endings, self.long_transfer]
+            self.failed_round_the_end()
+            scenarios = [self.assignments, self.syncs, self.all_endings, self.long_transfer]
         scenarios[number % len(scenarios)]()
         if self.test:
             self.bursts(number)
         if number % 6 == 0:
             self.no_call_tour()
+
+    def all_endings(self):
+        self.endings()
+        self.failed_writes()
 
     def steps(self, calls):
         """Steps until that many calls are made."""

@@ -1,7 +1,7 @@
 """Follows offload bursts: triggers, the output that is lent, the transfers of a burst."""
 
 from tests.scripts.bank import CARRIED_LENGTH, CMDR, QUEUES, SDI, SDO, Transfer, carried
-from tests.scripts.endings import NO_ERROR
+from tests.scripts.endings import NO_ERROR, UNSENT
 from tests.scripts.reached.followed import BURST, DIRECT, DONE, Followed
 from thymewax import Command, Number
 from thymewax.calls import TRIGGER
@@ -123,6 +123,8 @@ class Bursts(Followed):
             self.note('burst, write of %d, all sent' % transfer.length)
         if not transfer.read and not transfer.moved:
             self.empty_write_before = True
+            if code in UNSENT and transfer.length and self.level(SDO):
+                self.note('burst, write ended with %d, data stays in SDO' % code)
         for queue in (CMDR, SDI):
             if self.room(queue) == 0:
                 self.note('burst finish, %s full' % QUEUES[queue])

@@ -1,10 +1,12 @@
 """Follows bus events of direct transfers, and interrupt requests."""
 
 from tests.scripts.bank import CMD, CMDR, IBI, LONGEST, SDI, SDO, Transfer
-from tests.scripts.endings import CE2, REQUEST_OPEN, REQUEST_SERVED
+from tests.scripts.endings import CE2, REQUEST_OPEN, REQUEST_SERVED, UNSENT
 from tests.scripts.reached.bursts import Bursts
 from tests.scripts.reached.followed import BURST, DIRECT, DONE
-from tests.scripts.reached.situations import COMMAND_TO, INTERRUPT_FROM
+from tests.scripts.reached.situations import (AFTER_THE_START, COMMAND_TO, INTERRUPT_FROM,
+                                              ROUND_THE_END, SDO_HAS_ALL, SDO_HAS_FEWER,
+                                              SDO_HAS_MORE, failed_write)
 from thymewax import Ccc, Command, Config, Number
 
 # A direct CCC whose code is ENTDAA's but for the bit that says so.
@@ -32,6 +34,7 @@ class Events(Bursts):
             self.note('direct transfer after a burst')
         self.transfer = Transfer(first, second, self.devices)
         self.request_refused = False
+        self.queued_at_start = self.pushed[SDO]
         if self.transfer.by_device and self.transfer.attached:
             self.counts.addresses[COMMAND_TO, self.transfer.address] += 1
         self.note_command(Command.of(first), second)
@@ -119,10 +122,34 @@ class Events(Bursts):
         gathered = transfer.read and transfer.part()
         if number == Number.NO_ROOM:
             self.note_no_room(gathered)
+            if transfer.removes(code) and self.level(SDO):
+                self.note('failed write, no room for its receipt, SDO not empty')
         if number == DONE:
             if code == CE2 and self.request_refused:
                 self.note('ENTDAA ended with 4 after a refused request')
+            self.remove(code)
             self.finish(gathered)
+
+    def remove(self, code):
+        """The payload of a failed write leaves SDO."""
+        transfer, there = self.transfer, self.level(SDO)
+        if not transfer.removes(code) or transfer.length == 0:
+            if code in UNSENT and there:
+                self.note('%s ended with %d, data stays in SDO' % (
+                    'write of no bytes' if transfer.write else
+                    'ENTDAA' if transfer.entdaa else 'read', code))
+            return
+        needed, size = transfer.needed(), self.capacities[SDO]
+        removed = min(needed, there)
+        case = failed_write(transfer.kind, code)
+        self.note(case + (SDO_HAS_FEWER if there < needed else
+                          SDO_HAS_MORE if there > needed else SDO_HAS_ALL))
+        if self.taken[SDO] % size + removed > size:
+            self.note(case + ROUND_THE_END)
+            self.note('SDO of %d, words removed round the end' % size)
+        if self.taken[SDO] + removed > self.queued_at_start:
+            self.note(case + AFTER_THE_START)
+        self.taken[SDO] += removed
 
     def note_no_room(self, gathered):
         receipt, word = self.room(CMDR) == 0, gathered and self.room(SDI) == 0

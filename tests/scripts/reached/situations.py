@@ -2,7 +2,7 @@
 
 from tests.scripts.bank import (BURST_LENGTH, CARRIED_LENGTH, LEAST_CAPACITIES, OUTPUT_WORDS,
                                 QUEUES, SESSION_CAPACITIES, TEST_CAPACITIES)
-from tests.scripts.endings import CE2, ENDINGS, NACK, NO_ERROR, UNKNOWN
+from tests.scripts.endings import CE2, ENDINGS, NACK, NO_ERROR, NONE_MOVED, UNKNOWN, UNSENT
 from tests.scripts.reached.possible import EVENTS
 from thymewax import Irq, Number
 from thymewax.calls import TRIGGER
@@ -59,6 +59,22 @@ PENDING_BITS = [bit.bit_length() - 1
                 for bit in (Irq.CMDR_PENDING, Irq.IBI_PENDING, Irq.DAA_PENDING)]
 PHASES = IN_RESET, IDLE, TRANSFER_OPEN = 'in reset', 'idle', 'transfer open'
 
+# Failed writes (`finish.removal`), by kind and code: the words in SDO against those that the length
+# needs, and which words leave.
+SDO_HAS = SDO_HAS_FEWER, SDO_HAS_ALL, SDO_HAS_MORE = (
+    'SDO has fewer words', 'SDO has all words', 'SDO has more words')
+ROUND_THE_END, AFTER_THE_START = 'words round the end', 'words queued after the start'
+
+
+def failed_write(kind, code):
+    return '%s, code %d, ' % (kind, code)
+
+
+FAILED_WRITES = [failed_write(kind, code) + case
+                 for kind, states in ENDINGS.items() if 'write' in kind
+                 for code in states[NONE_MOVED] if code in UNSENT
+                 for case in (*SDO_HAS, ROUND_THE_END, AFTER_THE_START)]
+
 SESSION_SITUATIONS = (
     ['%s full with head at %d' % (queue, head)
      for queue, size in zip(QUEUES, SESSION_CAPACITIES) for head in range(size)]
@@ -87,6 +103,10 @@ SESSION_SITUATIONS = (
     + ['finish, no room in CMDR', 'finish, no room in SDI for a part word',
        'finish, no room in both', 'finish, part word pushed', 'finish, bytes left dropped',
        'finish, data stays in SDO', 'finish in offload mode']
+    + FAILED_WRITES + ['failed write, no room for its receipt, SDO not empty']
+    + ['%s ended with %d, data stays in SDO' % (kind, code)
+       for kind in ('read', 'write of no bytes') for code in UNSENT]
+    + ['ENTDAA ended with %d, data stays in SDO' % CE2]
     + ['length reached at 0', 'length reached after bytes', 'SDO empty at the first byte',
        'SDO empty at a later word', 'no room at the fourth byte']
     + ['%s: %d before %d' % order for order in ORDERS]
@@ -102,6 +122,7 @@ ADDRESS_USES = COMMAND_TO, INTERRUPT_FROM = 'command to', 'interrupt from'
 SET_UP_SITUATIONS = (
     ['%s of %d %s' % (queue, size, state) for state in ('full', 'wrapped')
      for queue, least in zip(QUEUES, LEAST_CAPACITIES) for size in TEST_CAPACITIES if size >= least]
+    + ['SDO of %d, words removed round the end' % size for size in TEST_CAPACITIES if size > 1]
     + ['%s watermark %s' % (queue, end) for queue in QUEUES for end in ('0', 'capacity')]
     + ['ID 0', 'ID 255']
     + ['%s capacity below its least refused' % queue for queue in QUEUES]
@@ -141,6 +162,7 @@ BURST_SITUATIONS = (
     + ['burst after a direct transfer', 'direct transfer after a burst']
     + ['burst finish, CMDR full', 'burst finish, SDI full', 'burst byte sent, SDO not empty',
        'burst byte sent, SDO empty', 'burst, fourth byte received, SDI full']
+    + ['burst, write ended with %d, data stays in SDO' % code for code in UNSENT]
     + ['output word %d shown, written' % place for place in range(BURST_LENGTH)]
     + ['output word %d shown, not written' % place for place in range(OUTPUT_WORDS)]
 )

@@ -4,12 +4,15 @@ use borrow.Author.Needs.{needs}
 use Rattle.effect.proofs.receipt_and.Statement.{statement}
 use Rattle.effect.proofs.receipt_and.Tie as tie
 
+take-if-requires : tie.Need-take-if-requires
+take-if-requires c κs = search needs
+
 push-if-requires : tie.Need-push-if-requires
 push-if-requires c κs = search needs
 
 returns : tie.Need-returns
 unfolding opsOf fiveOf
-returns c = rw (c .push-if .ensures)
+returns c = rw (c .push-if .ensures, c .before .take-if .ensures)
 
 pub receipt-and-spec : {M : Type 1} → statement M
-receipt-and-spec = tie.close (tie.spec push-if-requires returns)
+receipt-and-spec = tie.close (tie.spec take-if-requires push-if-requires returns)

@@ -32,6 +32,12 @@ receipt-requires c κs = let a = c .before .before .before .before in (a .pre .1
 counted-requires : tie.Need-counted-requires
 counted-requires c κs = search needs
 
+removed-words-requires : tie.Need-removed-words-requires
+removed-words-requires c κs = search needs
+
+does-remove-requires : tie.Need-does-remove-requires
+does-remove-requires c κs = search needs
+
 receipt-and-requires : tie.Need-receipt-and-requires
 receipt-and-requires c κs = search needs
 
@@ -40,15 +46,16 @@ done-requires c κs = search needs
 
 returns-2 : tie.Need-returns-2
 unfolding finish
-returns-2 c = λ t f.
-    let counted = c .before .before in
-    let receipt = counted .before .before in
-    let opened = receipt .before .before in
-    let passed = opened .before in
-    let a = passed .before .before .args in
-    let zero = sym (passed .before .finish-number .ensures t f) ∙ passed .if1 .left in
-    rw (c .done .ensures t, c .before .receipt-and .ensures, counted .counted .ensures, receipt .receipt .ensures, receipt .before .is-padded .ensures, opened .transfer-of .ensures)
-    (served-as (λ v. finish v (a .code)) (seen (a .st) t f) refl zero)
+returns-2 c = λ t f. let o = c .before in
+    let d = o .before in
+    let n = d .before in
+    let k = n .before .before in
+    let r = k .before .before in
+    let p = r .before in
+    let x = p .before in
+    let i = x .before in
+    let a = i .before .before in
+    rw (c .done .ensures t, o .receipt-and .ensures, d .does-remove .ensures, n .removed-words .ensures, k .counted .ensures, r .receipt .ensures, p .is-padded .ensures, x .transfer-of .ensures) (served-as (λ v. finish v (a .args .code)) (seen (a .args .st) t f) refl (sym (i .before .finish-number .ensures t f) ∙ i .if1 .left))
 
 pub finish-spec : {M : Type 1} → statement M
 finish-spec =
@@ -61,6 +68,8 @@ finish-spec =
     is-padded-requires
     receipt-requires
     counted-requires
+    removed-words-requires
+    does-remove-requires
     receipt-and-requires
     done-requires
     returns-2)

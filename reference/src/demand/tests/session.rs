@@ -262,8 +262,10 @@ impl Script {
         self.end(0, 16);
     }
 
+    /// Its data leaves SDO with the finish (02 §2), else the next ENTDAA would be refused.
     fn not_acknowledged(&mut self) {
         self.mark("not acknowledged");
+        self.data(3);
         self.command(0x0020_0310);
         self.line("S");
         self.line("F 0");
@@ -272,6 +274,7 @@ impl Script {
 
     fn not_attached(&mut self) {
         self.mark("not attached");
+        self.data(3);
         self.command(0x0000_0340);
         self.line("S");
         self.line("T");

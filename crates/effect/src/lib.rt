@@ -59,11 +59,8 @@ pub struct Effect {
 pub fn while_open(held: bool, idle: bool, n: u32) -> u32
     ensures { λ r. ⌜ r ≡ cond held number.heldInReset (cond idle number.noTransfer n) ⌝ }
 {
-    bank::select(
-        held,
-        number::HELD_IN_RESET,
-        bank::select(idle, number::NO_TRANSFER, n),
-    )
+    let n = bank::select(idle, number::NO_TRANSFER, n);
+    bank::select(held, number::HELD_IN_RESET, n)
 }
 
 // The number of an event that begins where none is open: 5 in reset (`event.reset`), 6 where one is (`event.open`),
@@ -71,11 +68,8 @@ pub fn while_open(held: bool, idle: bool, n: u32) -> u32
 pub fn while_idle(held: bool, idle: bool, n: u32) -> u32
     ensures { λ r. ⌜ r ≡ cond held number.heldInReset (cond (not idle) number.transferOpen n) ⌝ }
 {
-    bank::select(
-        held,
-        number::HELD_IN_RESET,
-        bank::select(!idle, number::TRANSFER_OPEN, n),
-    )
+    let m = bank::select(!idle, number::TRANSFER_OPEN, n);
+    bank::select(held, number::HELD_IN_RESET, m)
 }
 
 // ── Operations ─────────────────────────────────────────────────────────────────────────────────────────────────

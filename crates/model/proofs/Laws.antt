@@ -218,7 +218,7 @@ write-kept s (takes q) v k h = kept-all k
 write-kept s enables v k h = enable-kept s (bit 0 v) k h
 write-kept s acknowledges v k h = kept-all k
 
-finish-kept : (a b d : QueueOp) (k : Queue) → same Cmdr k ≡ false → same Sdo k ≡ false → same Sdi k ≡ false → of k (record { cmd = keep; cmdr = a; sdo = b; sdi = d; ibi = keep }) ≡ keep
+finish-kept : (a b d : QueueOp) (k : Queue) → sameQueue Cmdr k ≡ false → sameQueue Sdo k ≡ false → sameQueue Sdi k ≡ false → of k (record { cmd = keep; cmdr = a; sdo = b; sdi = d; ibi = keep }) ≡ keep
 finish-kept a b d Cmd e f g = refl
 finish-kept a b d Cmdr e f g = absurd (true≢false e)
 finish-kept a b d Sdo e f g = absurd (true≢false f)
@@ -235,7 +235,7 @@ keeps s (Write o v) k h = write-kept s (row (registerAt o)) v k h
 keeps s Start k h = kept-only Cmd _ k h
 keeps s Send k h = of-two (KeepsQueue k) (bursting (s .control)) (burstSend s) (send s) (λ e. kept-all k) (λ e. kept-only Sdo _ k h)
 keeps s (Receive b) k h = of-two (KeepsQueue k) (bursting (s .control)) (burstReceive s b) (receive s b) (λ e. kept-all k) (λ e. kept-only Sdi _ k h)
-keeps s (Finish code) k h = of-two (KeepsQueue k) (bursting (s .control)) (burstFinish s code) (finish s code) (λ e. kept-all k) (λ e. let r = or-right (same Cmdr k) (same Sdo k || same Sdi k) h in finish-kept _ _ _ k (or-left (same Cmdr k) (same Sdo k || same Sdi k) h) (or-left (same Sdo k) (same Sdi k) r) (or-right (same Sdo k) (same Sdi k) r))
+keeps s (Finish code) k h = of-two (KeepsQueue k) (bursting (s .control)) (burstFinish s code) (finish s code) (λ e. kept-all k) (λ e. let r = or-right (sameQueue Cmdr k) (sameQueue Sdo k || sameQueue Sdi k) h in finish-kept _ _ _ k (or-left (sameQueue Cmdr k) (sameQueue Sdo k || sameQueue Sdi k) h) (or-left (sameQueue Sdo k) (sameQueue Sdi k) r) (or-right (sameQueue Sdo k) (sameQueue Sdi k) r))
 keeps s (Interrupt a b) k h = kept-only Ibi _ k h
 keeps s (Request v w) k h = kept-only Sdi _ k h
 keeps s Take k h = kept-only Sdo _ k h

@@ -5,6 +5,7 @@ ghost use mathlib.Core.Bool.{true, false, cond};
 ghost use mathlib.Core.List.{List};
 ghost use Prim.Native.Nat.{ℕ};
 ghost use lib.ListN.{length};
+ghost use Rattle.number.specs.Names as number;
 ghost use Rattle.bank.specs.Bursts.{bursting};
 ghost use Rattle.bank.specs.Formed.{openOk};
 ghost use Rattle.model.specs.View.{Tables, tables};
@@ -20,16 +21,10 @@ use model::Call;
 // An event that an open burst refuses: with 13 where the output is too short (`burst.output`), else 5 in reset, else
 // `n`. Small, so that it is inlined everywhere: an effect that a callee writes through a pointer stays in memory.
 pub fn bar(st: State, lacks: bool, n: u32) -> Effect
-    ensures { λ e. ⌜ ((t : Tables) (f : Fronts) → (let v = seen st t f in effectOf e t ≡ (unchanged v withNumber cond lacks 13 (cond (st .control .held) 5 n)))) ⌝ }
+    ensures { λ e. ⌜ ((t : Tables) (f : Fronts) → (let v = seen st t f in effectOf e t ≡ (unchanged v withNumber cond lacks number.noRoom (cond (st .control .held) number.heldInReset n)))) ⌝ }
 {
-    effect::refuse(
-        st,
-        bank::select(
-            lacks,
-            number::NO_ROOM,
-            bank::select(st.control.held, number::HELD_IN_RESET, n),
-        ),
-    )
+    let m = bank::select(st.control.held, number::HELD_IN_RESET, n);
+    effect::refuse(st, bank::select(lacks, number::NO_ROOM, m))
 }
 
 // Any event that passes 18. What is given for an access is not promised: none comes here.
@@ -48,13 +43,13 @@ pub fn event(
     match call {
         Call::Read(_) => effect::refuse(st, number::NO_ROOM),
         Call::Write(_, _) => effect::refuse(st, number::NO_ROOM),
-        Call::Start => bar(st, lacks, 6),
+        Call::Start => bar(st, lacks, number::TRANSFER_OPEN),
         Call::Send => burst_bytes::send(st, commands, payloads, len),
         Call::Receive(byte) => burst_bytes::receive(st, commands, len, byte),
         Call::Finish(code) => burst_finish::finish(st, flags, commands, len, code),
-        Call::Interrupt(_, _) => bar(st, lacks, 6),
-        Call::Request(_, _) => bar(st, lacks, 10),
-        Call::Take => bar(st, lacks, 10),
-        Call::Trigger => bar(st, lacks, 6),
+        Call::Interrupt(_, _) => bar(st, lacks, number::TRANSFER_OPEN),
+        Call::Request(_, _) => bar(st, lacks, number::NOT_THIS_KIND),
+        Call::Take => bar(st, lacks, number::NOT_THIS_KIND),
+        Call::Trigger => bar(st, lacks, number::TRANSFER_OPEN),
     }
 }

@@ -42,11 +42,8 @@ fn trigger_number(st: State, commands: &[u32; 16], len: usize) -> u32
     let n = bank::select(is_output_short(st.regs, commands, len), number::NO_ROOM, 0);
     let n = bank::select(!runs, number::NOT_CARRIED, n);
     let n = bank::select(span == 0, number::BURST_HAS_NO_COMMANDS, n);
-    let n = bank::select(
-        !burst_commands::is_offload(st.regs),
-        number::NOT_IN_THIS_MODE,
-        n,
-    );
+    let offload = burst_commands::is_offload(st.regs);
+    let n = bank::select(!offload, number::NOT_IN_THIS_MODE, n);
     effect::while_idle(st.control.held, idle, n)
 }
 

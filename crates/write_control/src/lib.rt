@@ -70,11 +70,8 @@ pub fn write_enable(st: State, x: u32) -> Effect
 fn push_number(held: bool, cap: u32, level: u32) -> u32
     ensures { λ n. ⌜ n ≡ pushNumber held cap level ⌝ }
 {
-    bank::select(
-        held,
-        number::HELD_IN_RESET,
-        bank::select(cap <= level, number::DROPPED_FULL, 0),
-    )
+    let n = bank::select(cap <= level, number::DROPPED_FULL, 0);
+    bank::select(held, number::HELD_IN_RESET, n)
 }
 
 // A push to CMD (`cmd.push`): made where its number is 0, else nothing changes. One way out: a return of its own for

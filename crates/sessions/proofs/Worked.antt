@@ -1,19 +1,8 @@
 -- 01's session, as text: its ten lines print its right column.
 use mathlib.Core.Path.{_≡_, refl}
 use mathlib.Core.List.{[], _∷_}
-use lib.Count.{ones}
-use Rattle.ring.specs.Ring.{entries}
-use Rattle.bank.specs.SetUp.{capsOk, marksOk, sizesOk, setUp}
-use Rattle.bank.specs.Bursts.{allCarried, readsIn}
-use Rattle.bank.specs.Formed.{queuesOk, regsOk, flagsOk, phaseOk, burstOk, openOk, queuesClear, controlClear, resetOk, wellFormed}
-use Rattle.registers.specs.Map.{named, offload, find}
-use Rattle.model.specs.Commands.{kindOf, isEntdaa, isRead, isWrite, lengthOf, begun, receiptWord, entryWord}
-use Rattle.model.specs.Registers.{enable}
-use Rattle.model.specs.Calls.{start, send, receive, allowed, padded, finish, interrupt, request, takeAddress}
-use Rattle.model.specs.Bursts.{short, trigger, burstSend, burstReceive, burstFinish}
-use Rattle.model.specs.Engine.{step}
-use Rattle.model.specs.Rings.{onRing, onStore, guardRings}
 use Rattle.model.specs.Cases.{session}
+use Rattle.model.proofs.Cases.{steps}
 use Rattle.letters.specs.Forms as letters
 use Rattle.sessions.specs.Session.{fed, printed}
 
@@ -38,5 +27,5 @@ pub worked : printed session
     ∷ 0x30 ∷ 0x30 ∷ 0x30 ∷ 0x30 ∷ 0x30 ∷ 0x32 ∷ 0x30 ∷ 0x30 ∷ 0x20 ∷ 0x30 ∷ 0x30 ∷ 0x0a
     ∷ 0x30 ∷ 0x30 ∷ 0x30 ∷ 0x30 ∷ 0x30 ∷ 0x32 ∷ 0x30 ∷ 0x30 ∷ 0x20 ∷ 0x30 ∷ 0x30 ∷ 0x0a
     ∷ 0x30 ∷ 0x30 ∷ 0x30 ∷ 0x30 ∷ 0x30 ∷ 0x30 ∷ 0x30 ∷ 0x30 ∷ 0x20 ∷ 0x30 ∷ 0x33 ∷ 0x0a ∷ []
-unfolding entries capsOk marksOk sizesOk setUp queuesOk regsOk flagsOk phaseOk burstOk openOk allCarried readsIn queuesClear controlClear resetOk wellFormed kindOf isEntdaa isRead isWrite lengthOf begun receiptWord entryWord named offload find enable start send receive allowed padded finish interrupt request takeAddress short trigger burstSend burstReceive burstFinish step onRing onStore guardRings ones letters.forms letters.find fed
+unfolding steps letters.forms letters.find fed
 worked = refl

@@ -15,8 +15,10 @@ use Rattle.player.proofs.replay_parts.Tie as tie
 
 abbrev Inv-loop : tie.InvT-loop
 Inv-loop flags₀ commands₀ payloads₀ store₀ output₀ fault records n s₀ h₀ a₀ i₀ flags commands payloads store output s h a i =
-    (i ≤ n) × (n < 18446744073709551616) × (12 * n ≤ length records) × (length store ≡ length store₀) × (length output ≡ length output₀) × (fault ≡ faultNumber (bankWith s h (tables flags commands payloads output)) (length store))
-    × (each did wrong (n - i) records i (telling 0 i a (controller (bankWith s h (tables flags commands payloads output)) store output)) ≡ each did wrong n records 0 (begun 0 (controller (bankWith s₀ h₀ (tables flags₀ commands₀ payloads₀ output₀)) store₀ output₀)))
+    (i ≤ n) × (n < 18446744073709551616) × (12 * n ≤ length records) × (length store ≡ length store₀) × (length output ≡ length output₀)
+    × (fault ≡ faultNumber (bankWith s h (tables flags commands payloads output)) (length store))
+    × (each did wrong (n - i) records i (telling 0 i a (controller (bankWith s h (tables flags commands payloads output)) store output))
+    ≡ each did wrong n records 0 (begun 0 (controller (bankWith s₀ h₀ (tables flags₀ commands₀ payloads₀ output₀)) store₀ output₀)))
 
 abbrev μ-loop : tie.MeasureT-loop
 μ-loop flags₀ commands₀ payloads₀ store₀ output₀ fault records n s₀ h₀ a₀ i₀ flags commands payloads store output s h a i = n - i

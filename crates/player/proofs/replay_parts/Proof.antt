@@ -1,6 +1,6 @@
 -- `player::replay_parts` meets its contract.
 use Prim.Native.Nat.{_-_, _*_, _≤_, _<_}
-use mathlib.Core.Path.{_≡_}
+use mathlib.Core.Path.{_≡_, refl}
 use lib.ListN.{length}
 use borrow.Author.Needs.{needs}
 use Rattle.model.specs.View.{tables}
@@ -24,7 +24,7 @@ abbrev μ-loop : tie.MeasureT-loop
 μ-loop flags₀ commands₀ payloads₀ store₀ output₀ fault records n s₀ h₀ a₀ i₀ flags commands payloads store output s h a i = n - i
 
 loop-holds : tie.Need-loop-holds Inv-loop μ-loop
-loop-holds c = search (starts, needs)
+loop-holds c = (search needs, search needs, search needs, refl, refl, search needs, search (starts, needs))
 
 at-requires : tie.Need-at-requires Inv-loop μ-loop
 at-requires c κs = search needs

@@ -1,19 +1,8 @@
 -- The worked session of 01, as text: its ten lines print the answers beside them.
 use mathlib.Core.Path.{_≡_, refl}
 use mathlib.Core.List.{[], _∷_}
-use lib.Count.{ones}
-use Rattle.ring.specs.Ring.{entries}
-use Rattle.bank.specs.SetUp.{capsOk, marksOk, sizesOk, setUp}
-use Rattle.bank.specs.Bursts.{allCarried, readsIn}
-use Rattle.bank.specs.Formed.{queuesOk, regsOk, flagsOk, phaseOk, burstOk, openOk, queuesClear, controlClear, resetOk, wellFormed}
-use Rattle.registers.specs.Map.{named, offload, entryAt}
-use Rattle.model.specs.Commands.{kindOf, isEntdaa, isRead, isWrite, lengthOf, begun, receiptWord, entryWord}
-use Rattle.model.specs.Registers.{enable}
-use Rattle.model.specs.Calls.{start, send, receive, allowed, padded, finish, interrupt, request, takeAddress}
-use Rattle.model.specs.Bursts.{shortInBurst, trigger, burstSend, burstReceive, burstFinish}
-use Rattle.model.specs.Engine.{step}
-use Rattle.model.specs.Rings.{onRing, onStore, guardRings}
 use Rattle.model.specs.Cases.{workedSession}
+use Rattle.model.proofs.Cases.{steps}
 use Rattle.letters.specs.Forms as letters
 use Rattle.sessions.specs.Session.{sessionFed, printed}
 
@@ -38,5 +27,5 @@ pub worked : printed workedSession
     ∷ 0x30 ∷ 0x30 ∷ 0x30 ∷ 0x30 ∷ 0x30 ∷ 0x32 ∷ 0x30 ∷ 0x30 ∷ 0x20 ∷ 0x30 ∷ 0x30 ∷ 0x0a
     ∷ 0x30 ∷ 0x30 ∷ 0x30 ∷ 0x30 ∷ 0x30 ∷ 0x32 ∷ 0x30 ∷ 0x30 ∷ 0x20 ∷ 0x30 ∷ 0x30 ∷ 0x0a
     ∷ 0x30 ∷ 0x30 ∷ 0x30 ∷ 0x30 ∷ 0x30 ∷ 0x30 ∷ 0x30 ∷ 0x30 ∷ 0x20 ∷ 0x30 ∷ 0x33 ∷ 0x0a ∷ []
-unfolding entries capsOk marksOk sizesOk setUp queuesOk regsOk flagsOk phaseOk burstOk openOk allCarried readsIn queuesClear controlClear resetOk wellFormed kindOf isEntdaa isRead isWrite lengthOf begun receiptWord entryWord named offload entryAt enable start send receive allowed padded finish interrupt request takeAddress shortInBurst trigger burstSend burstReceive burstFinish step onRing onStore guardRings ones letters.forms letters.formWith sessionFed
+unfolding steps letters.forms letters.formWith sessionFed
 worked = refl

@@ -1,6 +1,6 @@
 -- `player::replay_parts` meets its contract.
 use Prim.Native.Nat.{_-_, _*_, _≤_, _<_}
-use mathlib.Core.Path.{_≡_}
+use mathlib.Core.Path.{_≡_, refl}
 use lib.ListN.{length}
 use borrow.Author.Needs.{needs}
 use Rattle.model.specs.View.{tables}
@@ -15,14 +15,16 @@ use Rattle.player.proofs.replay_parts.Tie as tie
 
 abbrev Inv-loop : tie.InvT-loop
 Inv-loop flags₀ commands₀ payloads₀ store₀ output₀ fault records n s₀ h₀ a₀ i₀ flags commands payloads store output s h a i =
-    (i ≤ n) × (n < 18446744073709551616) × (12 * n ≤ length records) × (length store ≡ length store₀) × (length output ≡ length output₀) × (fault ≡ faultNumber (bankWith s h (tables flags commands payloads output)) (length store))
-    × (eachRecord did wrong (n - i) records i (telling 0 i a (controller (bankWith s h (tables flags commands payloads output)) store output)) ≡ eachRecord did wrong n records 0 (replayBegun 0 (controller (bankWith s₀ h₀ (tables flags₀ commands₀ payloads₀ output₀)) store₀ output₀)))
+    (i ≤ n) × (n < 18446744073709551616) × (12 * n ≤ length records) × (length store ≡ length store₀) × (length output ≡ length output₀)
+    × (fault ≡ faultNumber (bankWith s h (tables flags commands payloads output)) (length store))
+    × (eachRecord did wrong (n - i) records i (telling 0 i a (controller (bankWith s h (tables flags commands payloads output)) store output))
+    ≡ eachRecord did wrong n records 0 (replayBegun 0 (controller (bankWith s₀ h₀ (tables flags₀ commands₀ payloads₀ output₀)) store₀ output₀)))
 
 abbrev μ-loop : tie.MeasureT-loop
 μ-loop flags₀ commands₀ payloads₀ store₀ output₀ fault records n s₀ h₀ a₀ i₀ flags commands payloads store output s h a i = n - i
 
 loop-holds : tie.Need-loop-holds Inv-loop μ-loop
-loop-holds c = search (starts, needs)
+loop-holds c = (search needs, search needs, search needs, refl, refl, search needs, search (starts, needs))
 
 at-requires : tie.Need-at-requires Inv-loop μ-loop
 at-requires c κs = search needs

@@ -1,6 +1,5 @@
 -- `session::turn` is safe and ends.
-use lib.ListN.{length-take}
-use native.Mathlib.Omega.{arith}
+use lib.Seq.{length-take-le}
 use borrow.Author.Needs.{needs}
 use Rattle.session.proofs.turn.Statement.{statement}
 use Rattle.session.proofs.turn.Tie as tie
@@ -36,7 +35,7 @@ slice-reshare-prefix-write-counted : tie.Need-slice-reshare-prefix-write-counted
 slice-reshare-prefix-write-counted c = search needs
 
 slice-aggregate-write-counted : tie.Need-slice-aggregate-write-counted
-slice-aggregate-write-counted c = simp length-take (omega (arith, c .before .before .before .before .before .before .feed .ensures .1))
+slice-aggregate-write-counted c = search (length-take-le, needs)
 
 write-counted-requires : tie.Need-write-counted-requires
 write-counted-requires c κs = search needs

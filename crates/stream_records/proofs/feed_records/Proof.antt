@@ -49,13 +49,15 @@ returns c =
       omega (arith, y .2),
     )
 
-mul-if2 : tie.Need-mul-if2
-mul-if2 c =
-    let a = start (c .before) in
-    let n = shown (c .before) .before .before .before .whole in
+-- the records' bytes can be counted, since those of the piece are
+records-fit : (c : tie.After-next) → 12 * shown c .before .before .before .whole .result < 18446744073709551616
+records-fit c =
+    let a = start c in
     let long : length (a .args .bytes .now) < 18446744073709551616 = a .good .1 .1 .1 .0 .0 in
-    let h : 12 * n .result < 18446744073709551616 = omega (arith, n .ensures .1, long) in
-    search needs
+    omega (arith, shown c .before .before .before .whole .ensures .1, long)
+
+mul-if2 : tie.Need-mul-if2
+mul-if2 c = let h = records-fit (c .before) in search needs
 
 close-requires-2 : tie.Need-close-requires-2
 close-requires-2 c κs = search needs
@@ -88,12 +90,7 @@ sub-t18 c =
     omega (arith, shown after .before .before .before .whole .ensures .0, within-most (start after .args .due) (start after .args .bytes .now))
 
 mul-t24 : tie.Need-mul-t24
-mul-t24 c =
-    let a = start (c .before .before) in
-    let n = shown (c .before .before) .before .before .before .whole in
-    let long : length (a .args .bytes .now) < 18446744073709551616 = a .good .1 .1 .1 .0 .0 in
-    let h : 12 * n .result < 18446744073709551616 = omega (arith, n .ensures .1, long) in
-    search needs
+mul-t24 c = let h = records-fit (c .before .before) in search needs
 
 same-length-5 : tie.Need-same-length-5
 same-length-5 c = search needs

@@ -30,11 +30,11 @@ pub fn regs_ok(g: Regs) -> bool
 }
 
 // By the largest flag byte: a loop without an early exit, which compiles to a vector maximum.
-pub fn flags_ok(flags: [u8; 128]) -> bool
-    ensures { λ b. ⌜ b ≡ flagsOk flags ⌝ }
+pub fn flags_ok(flags: &[u8]) -> bool
+    ensures { λ b. ⌜ b ≡ flagsOk (now (flags .entry)) ⌝ }
 {
     let mut most: u8 = 0;
-    for i in 0..128 {
+    for i in 0..flags.len() {
         let x = flags[i];
         if most < x {
             most = x;

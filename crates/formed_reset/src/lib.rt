@@ -32,8 +32,12 @@ fn control_clear(c: Control) -> bool
         & (c.burst == 0)
 }
 
+// Out of reset nothing is looked at: a branch, since few calls meet a bank in reset.
 pub fn reset_ok(c: Control, p: Phase, l: Counts, h: Heads) -> bool
     ensures { λ b. ⌜ ((k : Counts) → b ≡ resetOk c p (queuesOf k l h)) ⌝ }
 {
-    !c.held | (queues_clear(l, h) & control_clear(c) & (phases::stage_of(p) == phases::IDLE))
+    if !c.held {
+        return true;
+    }
+    queues_clear(l, h) & control_clear(c) & (phases::stage_of(p) == phases::IDLE)
 }

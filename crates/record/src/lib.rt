@@ -21,7 +21,7 @@ fn when(right: bool, c: Call) -> Parsed
 }
 
 // The call of a record, by its fields. No right record has a field that a remainder cuts.
-fn named(letter: u8, zero: u8, offset: u32, v: u32, w: u32) -> Parsed
+pub fn named(letter: u8, zero: u8, offset: u32, v: u32, w: u32) -> Parsed
     requires { ⌜ offset < 65536 ⌝ }
     ensures { λ p. ⌜ p ≡ namedIn (formOf letter) (rec letter zero offset v w) ⌝ }
 {

@@ -1,32 +1,37 @@
+-- `thymewax::thymewax_set_up` meets its contract.
+use mathlib.Core.Path.{ap, sym, _∙_}
 use borrow.Author.Needs.{needs}
+use borrow.Author.Tests.{not-true, not-false}
+use Rattle.image_model.specs.Image.{kept}
+use Rattle.host_model.specs.Host.{Fresh}
+use Rattle.host_model.proofs.Hosting.{no-size}
+use Rattle.thymewax.proofs.Sized.{long}
 use Rattle.thymewax.proofs.thymewax_set_up.Statement.{statement}
 use Rattle.thymewax.proofs.thymewax_set_up.Tie as tie
-use Rattle.thymewax.proofs.thymewax_set_up.Reads as reads
-use Rattle.thymewax.proofs.thymewax_set_up.Lts as lts
-use Rattle.host_calls.proofs.set_up.Reads as set-up-reads
-use Rattle.host_parts.proofs.is_sized.Reads as is-sized-reads
 
--- src/lib.rt:47:9
 is-sized-requires : tie.Need-is-sized-requires
 is-sized-requires c κs = search needs
 
--- src/lib.rt:48:9
 same-length : tie.Need-same-length
 same-length c = search needs
 
--- src/lib.rt:48:9
 returns : tie.Need-returns
-returns c = ?
+returns c =
+    let a = c .before .before .before .before .before .before .before .before .before .before .args in
+    let k = kept (a .image .now) (a .flags .now) (a .commands .now) (a .payloads .now) in
+    let e = no-size k (record { cmd = a .cmd; cmdr = a .cmdr; sdo = a .sdo; sdi = a .sdi; ibi = a .ibi }) (record { cmd = a .cmdmark; cmdr = a .cmdrmark; sdo = a .sdomark; sdi = a .sdimark; ibi = a .ibimark }) (a .id) (sym (c .before .is-sized .ensures) ∙ not-true _ (c .if1 .taken)) in
+    (ap (λ (h : Fresh). h .number) e, ap (λ (h : Fresh). h .kept) e)
 
--- src/lib.rt:64:5
 set-up-requires : tie.Need-set-up-requires
-set-up-requires c κs = ?
+set-up-requires c κs =
+    let a = c .before .before .before .before .before .before .before .before .before .before .before .before .before .before .args in
+    let k = kept (a .image .now) (a .flags .now) (a .commands .now) (a .payloads .now) in
+    let s = sym (c .before .before .before .before .before .is-sized .ensures) ∙ not-false _ (c .before .before .before .before .if1 .left) in
+    (long k s, s)
 
--- src/lib.rt:27:1
 same-length-2 : tie.Need-same-length-2
 same-length-2 c = search needs
 
--- src/lib.rt:27:1
 returns-2 : tie.Need-returns-2
 returns-2 c = search needs
 

@@ -1,62 +1,73 @@
+-- `thymewax::thymewax_step` meets its contract.
+use mathlib.Core.Path.{ap, sym, _∙_}
 use borrow.Author.Needs.{needs}
+use borrow.Author.Tests.{not-true, not-false}
+use Rattle.image_model.specs.Image.{kept}
+use Rattle.host_model.specs.Host.{Hosted, callOf, packedOf}
+use Rattle.host_model.proofs.Hosting.{not-encoded, no-bank}
+use Rattle.thymewax.proofs.Sized.{long, not-kept}
 use Rattle.thymewax.proofs.thymewax_step.Statement.{statement}
 use Rattle.thymewax.proofs.thymewax_step.Tie as tie
-use Rattle.thymewax.proofs.thymewax_step.Reads as reads
-use Rattle.thymewax.proofs.thymewax_step.Lts as lts
-use Rattle.host_calls.proofs.step.Reads as step-reads
-use Rattle.host_parts.proofs.is_sized.Reads as is-sized-reads
-use Rattle.host_parts.proofs.refused.Reads as refused-reads
-use Rattle.image.proofs.is_encoded.Reads as is-encoded-reads
 
--- src/lib.rt:83:9
 is-sized-requires : tie.Need-is-sized-requires
 is-sized-requires c κs = search needs
 
--- src/lib.rt:84:9
 refused-requires : tie.Need-refused-requires
 refused-requires c κs = search needs
 
--- src/lib.rt:84:9
 same-length : tie.Need-same-length
 same-length c = search needs
 
--- src/lib.rt:84:9
 returns : tie.Need-returns
-returns c = ?
+returns c =
+    let a = c .before .before .before .before .before .before .before .before .before .before .before .before .before .args in
+    let k = kept (a .image .now) (a .flags .now) (a .commands .now) (a .payloads .now) in
+    let e = no-bank k (a .store .now) (a .output .now) (callOf (a .letter) (a .offset) (a .first) (a .second)) (not-kept k (sym (c .before .before .is-sized .ensures) ∙ not-true _ (c .before .if1 .taken))) in (
+      c .refused .ensures ∙ ap (λ (h : Hosted). packedOf (h .answer)) e,
+      ap (λ (h : Hosted). h .kept) e,
+      ap (λ (h : Hosted). h .store) e,
+      ap (λ (h : Hosted). h .output) e,
+    )
 
--- src/lib.rt:86:9
 is-encoded-requires : tie.Need-is-encoded-requires
-is-encoded-requires c κs = ?
+is-encoded-requires c κs =
+    let a = c .before .before .before .before .before .before .before .before .before .before .before .before .before .args in
+    let k = kept (a .image .now) (a .flags .now) (a .commands .now) (a .payloads .now) in
+    long k (sym (c .before .before .is-sized .ensures) ∙ not-false _ (c .before .if1 .left))
 
--- src/lib.rt:87:9
 refused-requires-2 : tie.Need-refused-requires-2
 refused-requires-2 c κs = search needs
 
--- src/lib.rt:87:9
 same-length-2 : tie.Need-same-length-2
 same-length-2 c = search needs
 
--- src/lib.rt:87:9
 returns-2 : tie.Need-returns-2
-returns-2 c = ?
+returns-2 c =
+    let a = c .before .before .before .before .before .before .before .before .before .before .before .before .before .before .before .before .args in
+    let k = kept (a .image .now) (a .flags .now) (a .commands .now) (a .payloads .now) in
+    let e = no-bank k (a .store .now) (a .output .now) (callOf (a .letter) (a .offset) (a .first) (a .second)) (not-encoded k (sym (c .before .before .is-encoded .ensures) ∙ not-true _ (c .before .if2 .taken))) in (
+      c .refused2 .ensures ∙ ap (λ (h : Hosted). packedOf (h .answer)) e,
+      ap (λ (h : Hosted). h .kept) e,
+      ap (λ (h : Hosted). h .store) e,
+      ap (λ (h : Hosted). h .output) e,
+    )
 
--- src/lib.rt:89:5
 step-requires : tie.Need-step-requires
-step-requires c κs = ?
+step-requires c κs =
+    let a = c .before .before .before .before .before .before .before .before .before .before .before .before .before .before .before .before .before .before .before .before .before .args in
+    let k = kept (a .image .now) (a .flags .now) (a .commands .now) (a .payloads .now) in
+    let s = sym (c .before .before .before .before .before .before .before .before .before .before .is-sized .ensures) ∙ not-false _ (c .before .before .before .before .before .before .before .before .before .if1 .left) in
+    (long k s, s, sym (c .before .before .before .before .before .before .before .is-encoded .ensures) ∙ not-false _ (c .before .before .before .before .before .before .if2 .left))
 
--- src/lib.rt:68:1
 same-length-3 : tie.Need-same-length-3
 same-length-3 c = search needs
 
--- src/lib.rt:68:1
 same-length-4 : tie.Need-same-length-4
 same-length-4 c = search needs
 
--- src/lib.rt:68:1
 same-length-5 : tie.Need-same-length-5
 same-length-5 c = search needs
 
--- src/lib.rt:68:1
 returns-3 : tie.Need-returns-3
 returns-3 c = search needs
 

@@ -6,6 +6,7 @@
 Needs the shared library (`python3 -m thymewax.build`). Exit status 0 only if all is as expected.
 """
 
+import ctypes
 import re
 
 from python_trial import equal, generated, main
@@ -13,8 +14,8 @@ from python_trial import equal, generated, main
 from generate import Source
 from thymewax import Answer, Call, Model, Register, SetUp, section, session, trace
 from thymewax.calls import DIGITS
-from thymewax.image import WORDS
-from thymewax.library import Word, load
+from thymewax.image import FLAGS, IMAGE_WORDS, OFFLOAD_WORDS, WORDS
+from thymewax.library import VERSION, Word, load
 
 CALLS = [Call(letter) for letter in DIGITS] + [Call('G'), Call('Q'), Call('X', 0, 256)]
 TRACE = trace.join(trace.records([Call('R', 0), Call('R', 4)]))
@@ -131,22 +132,41 @@ def words(*numbers):
     return (Word * len(numbers))(*numbers)
 
 
+def kept(row):
+    """Image, its length, and the tables, as the archive takes them."""
+    image, flags = row[:-FLAGS - 2 * OFFLOAD_WORDS], row[-FLAGS - 2 * OFFLOAD_WORDS:-2 * OFFLOAD_WORDS]
+    return (words(*image), len(image), (ctypes.c_uint8 * FLAGS)(*flags),
+            words(*row[-2 * OFFLOAD_WORDS:-OFFLOAD_WORDS]), words(*row[-OFFLOAD_WORDS:]))
+
+
+def row_of(pieces):
+    image, _, flags, commands, payloads = pieces
+    return [*image, *flags, *commands, *payloads]
+
+
 def raw_set_up():
-    """Images of other lengths and numbers out of range leave the image as it was."""
+    """Images of other lengths and numbers out of range leave image and tables as they were."""
     library, numbers = load(), list(SetUp())
-    for length in (0, 1, 199, 200, 201):
-        image = words(*range(length))
-        number = library.thymewax_set_up(image, length, *numbers)
-        equal('raw set-up', '%d words' % length, number, 0 if length == WORDS else 21)
+    equal('raw set-up', 'version', library.thymewax_version(), VERSION)
+    equal('raw set-up', 'image words', library.thymewax_image_words(), IMAGE_WORDS)
+    for length in (0, 1, 39, 40, 41, 200):
+        row = list(range(length + WORDS - IMAGE_WORDS))
+        row = [word % 256 for word in row]
+        pieces = kept(row)
+        number = library.thymewax_set_up(*pieces, *numbers)
+        equal('raw set-up', '%d words' % length, number, 0 if length == IMAGE_WORDS else 21)
         if number:
-            equal('raw set-up', '%d words' % length, list(image), list(range(length)))
+            equal('raw set-up', '%d words' % length, row_of(pieces), row)
+        else:
+            equal('raw set-up', 'all written', row_of(pieces), list(Model.set_up().image()))
     for place in range(len(numbers)):
-        image = words(*range(WORDS))
+        row = [word % 256 for word in range(WORDS)]
+        pieces = kept(row)
         given = [*numbers[:place], 2000, *numbers[place + 1:]]
-        equal('raw set-up', given, library.thymewax_set_up(image, WORDS, *given), 23)
-        equal('raw set-up', given, list(image), list(range(WORDS)))
+        equal('raw set-up', given, library.thymewax_set_up(*pieces, *given), 23)
+        equal('raw set-up', given, row_of(pieces), row)
     # The length goes before the numbers.
-    equal('raw set-up', 'both', library.thymewax_set_up(words(*range(199)), 199, *[0] * 11), 21)
+    equal('raw set-up', 'both', library.thymewax_set_up(*kept([0] * (WORDS - 1)), *[0] * 11), 21)
 
 
 def raw_lengths():
@@ -154,9 +174,9 @@ def raw_lengths():
     library = load()
     model = Model.set_up()
     for length in range(6):
-        image, store, told = words(*model.image()), words(*model.store()), words(*[9] * length)
-        number = library.thymewax_replay(image, WORDS, store, len(store), TRACE, len(TRACE), 0, 1,
-                                         told, length)
+        store, told = words(*model.store()), words(*[9] * length)
+        number = library.thymewax_replay(*kept(model.image()), store, len(store), TRACE, len(TRACE),
+                                         0, 1, told, length)
         equal('raw lengths', 'told of %d' % length, (number, list(told)),
               (0, ([1, 0x100, 0] + [9] * 3)[:length]))
         place = words(*[9] * length)
@@ -169,9 +189,9 @@ def raw_lengths():
         equal('raw lengths', '%d bytes' % length, number,
               24 if length < 4 else 25 if length < len(TRACE) else 0)
     empty = words()
-    image, store = words(*model.image()), words(*model.store())
+    store = words(*model.store())
     equal('raw lengths', 'no output', library.thymewax_step(
-        image, WORDS, store, len(store), empty, 0, ord('R'), Register.VERSION, 0, 0), 0x100)
+        *kept(model.image()), store, len(store), empty, 0, ord('R'), Register.VERSION, 0, 0), 0x100)
 
 
 def raw_refusals():

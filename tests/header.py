@@ -3,8 +3,9 @@
 
     header.py
 
-Each prototype is a function of libhost.a and each of its functions has a prototype, with the
-parameters that crates/host/src/lib.rt gives it, by name and type. Register offsets are those of
+Each prototype is a function of libthymewax.a and each of its functions has a prototype, with the
+parameters that crates/thymewax and crates/thymewax_replay give it, by name and type. Version, words of
+an image and lengths of tables are those of the definitions. Register offsets are those of
 docs/registers.svd, answer numbers those of docs/ANSWERS.md, all of them. A program that calls every
 inline function beside the archive's own, with all warnings as errors, compiles as C and C++ by each
 compiler that is there and finds both the same. The example and the programs of docs/C.md print what
@@ -22,9 +23,11 @@ import xml.etree.ElementTree as ElementTree
 
 ROOT = os.path.realpath(os.path.join(os.path.dirname(os.path.abspath(__file__)), '..'))
 LIBRARY = os.environ.get('THYMEWAX_LIB_DIR') or os.path.join(ROOT, 'target', 'staticlib')
-ARCHIVE = os.path.join(LIBRARY, 'libhost.a')
+ARCHIVE = os.path.join(LIBRARY, 'libthymewax.a')
 HEADER = os.path.join(ROOT, 'include', 'thymewax.h')
-SOURCE = os.path.join(ROOT, 'crates', 'host', 'src', 'lib.rt')
+SOURCES = [os.path.join(ROOT, 'crates', name, 'src', 'lib.rt') for name in ('thymewax', 'thymewax_replay')]
+IMAGE = os.path.join(ROOT, 'crates', 'image_model', 'specs', 'Image.antt')
+HOST = os.path.join(ROOT, 'crates', 'host_model', 'specs', 'Host.antt')
 MAP = os.path.join(ROOT, 'docs', 'registers.svd')
 ANSWERS = os.path.join(ROOT, 'docs', 'ANSWERS.md')
 PAGE = os.path.join(ROOT, 'docs', 'C.md')
@@ -110,8 +113,8 @@ static const uint8_t trace[] = {
     'R', 0, 8, 0, 0, 0, 0, 0, 0, 0, 0, 0, 'R', 0, 6, 0, 0, 0, 0, 0, 0, 0, 0, 0,
     'R', 0, 4, 0, 0, 0, 0, 0, 0, 0, 0, 0,
     'R', 0, 4, 0, 0, 0, 0, 0, 0, 0, 0, 0, 'G', 0, 0, 0, 0, 0, 0, 0, 0, 0, 0, 0};
-static uint32_t image[200], store[25], output[1], m_store[25], m_output[1];
-static uint32_t old_image[200], old_store[25], old_output[1];
+static struct thymewax_kept k, old_k;
+static uint32_t store[25], output[1], m_store[25], m_output[1], old_store[25], old_output[1];
 static struct thymewax m;
 
 static void expect(const char *what, int holds)
@@ -124,20 +127,20 @@ static void expect(const char *what, int holds)
 
 static int same(void)
 {
-    return memcmp(image, m.image, sizeof image) == 0 && memcmp(store, m_store, sizeof store) == 0
+    return memcmp(&k, &m.kept, sizeof k) == 0 && memcmp(store, m_store, sizeof store) == 0
         && memcmp(output, m_output, sizeof output) == 0;
 }
 
 static void keep(void)
 {
-    memcpy(old_image, image, sizeof image);
+    old_k = k;
     memcpy(old_store, store, sizeof store);
     memcpy(old_output, output, sizeof output);
 }
 
 static int unchanged(void)
 {
-    return memcmp(image, old_image, sizeof image) == 0 && memcmp(store, old_store, sizeof store) == 0
+    return memcmp(&k, &old_k, sizeof k) == 0 && memcmp(store, old_store, sizeof store) == 0
         && memcmp(output, old_output, sizeof output) == 0;
 }
 
@@ -145,7 +148,7 @@ static void call(const char *what, struct thymewax_answer a, uint32_t letter, ui
                  uint32_t first, uint32_t second, uint32_t number)
 {
     keep();
-    uint64_t packed = thymewax_step(image, 200, store, 25, output, 1, letter, offset, first, second);
+    uint64_t packed = thymewax_step(k.image, 40, k.flags, k.commands, k.payloads, store, 25, output, 1, letter, offset, first, second);
     expect(what, a.value == (packed & 0xffffffffu) && a.number == packed >> 32);
     expect(what, a.number == number && same());
     expect(what, number == 0 || number == 19 || (a.value == 0 && unchanged()));
@@ -162,7 +165,7 @@ static uint32_t replay(size_t bytes, uint32_t section, size_t limit)
     struct thymewax_replayed r = thymewax_model_replay(&m, trace, bytes, section, limit);
     struct thymewax_place p = thymewax_find_section(trace, bytes, section);
     keep();
-    uint32_t number = thymewax_replay(image, 200, store, 25, trace, bytes, section, limit, told, 3);
+    uint32_t number = thymewax_replay(k.image, 40, k.flags, k.commands, k.payloads, store, 25, trace, bytes, section, limit, told, 3);
     int done = number == 0 || number == 27;
     expect("a replay's number", r.number == number);
     expect("a replay's memory", same() && (done || unchanged()));
@@ -187,11 +190,12 @@ static void replays(void)
 
 int main(void)
 {
+    expect("version", thymewax_version() == THYMEWAX_VERSION);
     expect("image words", thymewax_image_words() == THYMEWAX_IMAGE_WORDS);
     expect("store words", thymewax_store_words(capacities) == 25);
     memset(&m, 0xff, sizeof m);
     expect("set-up", thymewax_model_set_up(&m, capacities, watermarks, 90, m_store, 25) == 0);
-    expect("set-up", thymewax_set_up(image, 200, 6, 5, 4, 7, 3, 5, 4, 3, 2, 1, 90) == 0 && same());
+    expect("set-up", thymewax_set_up(k.image, 40, k.flags, k.commands, k.payloads, 6, 5, 4, 7, 3, 5, 4, 3, 2, 1, 90) == 0 && same());
     expect("23", thymewax_model_set_up(&m, capacities, watermarks, 256, m_store, 25) == 23);
     expect("21 after 23", thymewax_read(&m, 0).number == 21);
     expect("set-up again", thymewax_model_set_up(&m, capacities, watermarks, 90, m_store, 25) == 0 && same());
@@ -201,7 +205,7 @@ int main(void)
     m.output_words = 1;
 CALLS
     replays();
-    m.image[0] = image[0] = 5000;
+    m.kept.image[0] = k.image[0] = 5000;
     replays();
     expect("21 of each record", thymewax_model_replay(&m, trace, sizeof trace, 0, 9).number == 0);
     expect("21 of each record", thymewax_model_replay(&m, trace, sizeof trace, 0, 9).count == 2);
@@ -232,11 +236,14 @@ DAMAGES = (
     ('THYMEWAX_NOT_CARRIED = 29', 'THYMEWAX_NOT_CARRIED = 30'),
     ('    THYMEWAX_EMPTY = 3,', ''),
     ('LETTER_SEND = 0x54', 'LETTER_SEND = 0x58'),
-    ('IMAGE_WORDS 200', 'IMAGE_WORDS 201'),
+    ('IMAGE_WORDS 40', 'IMAGE_WORDS 41'),
+    ('FLAG_BYTES 128', 'FLAG_BYTES 127'),
+    ('_VERSION 1', '_VERSION 2'),
+    ('m->kept.commands, m->kept.payloads,\n                                    m->store', 'm->kept.payloads, m->kept.commands,\n                                    m->store'),
     # inline functions
     ('capacities[0], capacities[1]', 'capacities[1], capacities[0]'),
     ('watermarks[3], watermarks[4]', 'watermarks[4], watermarks[3]'),
-    ('m->image[i] = 0', '(void)i'),
+    ('m->kept.image[i] = 0', '(void)i'),
     ('m->output = NULL', 'm->output = store'),
     ('high & 0xffffffffu', 'packed & 0xffffffffu'),
     ('_INTERRUPT, 0, address, byte', '_INTERRUPT, 0, byte, address'),
@@ -301,6 +308,9 @@ def prototypes(header):
 def in_c(name, kind):
     """The parameters that stand for one of the source: a slice is a pointer and a count."""
     name = joined(NAMES.get(name, name))
+    array_of = re.fullmatch(r'&mut \[(\w+); \d+\]', kind)
+    if array_of:
+        return [(TYPES[array_of[1]] + '*', name)]
     slice_of = re.fullmatch(r'&(mut )?\[(\w+)\]', kind)
     if not slice_of:
         return [(TYPES[kind], name)]
@@ -351,13 +361,25 @@ def is_named_for(name, means):
     return set(name.lower().split('_')) <= set(re.findall('[a-z]+', means.lower()))
 
 
+def lengths():
+    """The numbers that the header has from the definitions, by their names there."""
+    image = read(IMAGE)
+    flags, words = (int(re.search(r'eqb \(length \(k \.%s\)\) (\d+)' % table, image)[1])
+                    for table in ('flags', 'commands'))
+    return {'VERSION': int(re.search(r'^version = (\d+)$', read(HOST), re.M)[1]),
+            'IMAGE_WORDS': int(re.search(r'^size = (\d+)$', image, re.M)[1]),
+            'FLAG_BYTES': flags, 'OFFLOAD_WORDS': words}
+
+
 def wrong_declarations(text):
     """What a header declares otherwise than archive, source and documents."""
     header = bare(text)
-    declared, given = prototypes(header), exported(read(SOURCE))
+    declared, given = prototypes(header), exported('\n'.join(map(read, SOURCES)))
     found = ['%s: declared %s, exported %s' % (name, declared.get(name), given.get(name))
              for name in sorted({*declared, *given}) if declared.get(name) != given.get(name)]
     found += ['%s: in the header or in the archive only' % name for name in sorted(symbols() ^ set(declared))]
+    found += ['THYMEWAX_%s is not %d' % (name, number) for name, number in lengths().items()
+              if not re.search(r'^#define THYMEWAX_%s %d$' % (name, number), text, re.M)]
     offsets, svd = names(header, 'thymewax_register', 'THYMEWAX_REG_'), registers()
     found += ['register %s: %s in the header, %s in the map' % (name, offsets.get(name), svd.get(name))
               for name in sorted({*offsets, *svd}) if offsets.get(name) != svd.get(name)]
@@ -388,7 +410,7 @@ def wrong_program(folder, compiler, standard):
     alone = write(folder, 'alone' + ending, '#include "thymewax.h"\n#include "thymewax.h"\n')
     calls = write(folder, 'calls' + ending, program())
     made = os.path.join(folder, 'calls')
-    for step in ([*command, '-c', alone, '-o', made], [*command, calls, '-L' + LIBRARY, '-lhost', '-o', made], [made]):
+    for step in ([*command, '-c', alone, '-o', made], [*command, calls, '-L' + LIBRARY, '-lthymewax', '-o', made], [made]):
         status, text = run(step)
         if status:
             return ['%s, %s: %s' % (compiler, standard, text)]

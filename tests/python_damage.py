@@ -198,16 +198,16 @@ def raw_refusals():
     """A refusal writes no lent word; the binding then gives 0, 0 and an empty section."""
     library = load()
     good = released()
-    for image in (good.image(), with_word(good.image(), 0, 1025), list(good.image())[:199]):
+    for image in (good.image(), with_word(good.image(), 0, 1025), list(good.image())[1:]):
         for file, asked, number in ((b'', 0, 24), (TRACE[:3], 0, 24), (TRACE[:-1], 0, 25),
                                     (TRACE, 1, 26)):
-            kept, store, told, place = (words(*image), words(*good.store()), words(9, 9, 9),
-                                        words(9, 9))
+            pieces, store, told, place = (kept(image), words(*good.store()), words(9, 9, 9),
+                                          words(9, 9))
             equal('raw refusals', number, library.thymewax_replay(
-                kept, len(kept), store, len(store), file, len(file), asked, 9, told, 3), number)
+                *pieces, store, len(store), file, len(file), asked, 9, told, 3), number)
             equal('raw refusals', number,
                   library.thymewax_section(file, len(file), asked, place, 2), number)
-            equal('raw refusals', number, (list(kept), tuple(store), list(told), list(place)),
+            equal('raw refusals', number, (row_of(pieces), tuple(store), list(told), list(place)),
                   (list(image), good.store(), [9, 9, 9], [9, 9]))
             equal('raw refusals', number, Model(image, good.store()).replay(file, asked),
                   (number, 0, (0, 0)))

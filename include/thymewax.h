@@ -12,7 +12,7 @@
  *     thymewax_write(&m, THYMEWAX_REG_ENABLE, 0);
  *     struct thymewax_answer room = thymewax_read(&m, THYMEWAX_REG_CMD_FIFO_ROOM);
  *
- * Link with libhost.a; docs/C.md has the line. There are two layers: the five
+ * Link with libthymewax.a; docs/C.md has the line. There are two layers: the six
  * functions of the archive, on plain memory, and after them inline functions on
  * a handle, struct thymewax. Neither allocates, and neither has globals.
  *
@@ -33,8 +33,16 @@
 #include <stddef.h>
 #include <stdint.h>
 
+/* The version of layout and calls: what thymewax_version() gives. */
+#define THYMEWAX_VERSION 1
+
 /* The words of an image: what thymewax_image_words() gives. */
-#define THYMEWAX_IMAGE_WORDS 200
+#define THYMEWAX_IMAGE_WORDS 40
+
+/* The tables: flag bytes, one for each device address; words of the offload
+ * commands, and as many of their data. */
+#define THYMEWAX_FLAG_BYTES 128
+#define THYMEWAX_OFFLOAD_WORDS 16
 
 /* The queues, in the order of capacities, watermarks and areas of the store:
  * CMD commands, CMDR receipts, SDO data out, SDI data in, IBI interrupts. */
@@ -63,7 +71,7 @@ enum thymewax_number {
     THYMEWAX_OUT_OF_RANGE = 18,            /* an address above 127, a code above 15 */
     THYMEWAX_WRONG_PARITY = 19,            /* the address word was taken, the request stays open */
     THYMEWAX_NOT_ATTACHED = 20,            /* the transfer's device, when the transfer opened */
-    THYMEWAX_NOT_WELL_FORMED = 21,         /* the image is not that of a well-formed bank */
+    THYMEWAX_NOT_WELL_FORMED = 21,         /* image and tables are not those of a well-formed bank */
     THYMEWAX_STORE_LENGTH = 22,            /* the store is not as long as the capacities together */
     THYMEWAX_SET_UP_OUT_OF_RANGE = 23,     /* a capacity, a watermark or the ID is out of range */
     THYMEWAX_WRONG_MARK = 24,              /* the file is no trace */
@@ -122,15 +130,23 @@ enum thymewax_letter {
 extern "C" {
 #endif
 
-/* How many words an image has: 200. */
+/* The version of layout and calls. */
+uint32_t thymewax_version(void);
+
+/* How many words an image has. */
 size_t thymewax_image_words(void);
 
-/* Writes the image of a fresh bank, held in reset: capacities and watermarks in
- * words, and the ID. CMD and SDI have capacities of 2 to 1,024, the others of 1
- * to 1,024; a watermark is at most its queue's capacity, the ID at most 255.
- * Gives 0; 21 if image_words is not 200, else 23 if a number is out of range, and
- * then leaves the image as it was. */
+/* What every call below takes first: an image, which is all of the state but the
+ * tables and the words in the queues, and the tables where they lie: flags points
+ * to 128 bytes, commands and payloads to 16 words each. */
+
+/* Writes image and tables of a fresh bank, held in reset: capacities and
+ * watermarks in words, and the ID. CMD and SDI have capacities of 2 to 1,024, the
+ * others of 1 to 1,024; a watermark is at most its queue's capacity, the ID at
+ * most 255. Gives 0; 21 if image_words is not thymewax_image_words(), else 23 if a
+ * number is out of range, and then leaves all as it was. */
 uint32_t thymewax_set_up(uint32_t *image, size_t image_words,
+                         uint8_t *flags, uint32_t *commands, uint32_t *payloads,
                          uint32_t cmd, uint32_t cmdr, uint32_t sdo,
                          uint32_t sdi, uint32_t ibi,
                          uint32_t cmd_mark, uint32_t cmdr_mark,
@@ -144,6 +160,7 @@ uint32_t thymewax_set_up(uint32_t *image, size_t image_words,
  * and byte, an address request its two words. 21 comes before 27, for numbers
  * that name no call, and that before 22 and the call's own numbers. */
 uint64_t thymewax_step(uint32_t *image, size_t image_words,
+                       uint8_t *flags, uint32_t *commands, uint32_t *payloads,
                        uint32_t *store, size_t store_words,
                        uint32_t *output, size_t output_words,
                        uint32_t letter, uint32_t offset,
@@ -152,10 +169,11 @@ uint64_t thymewax_step(uint32_t *image, size_t image_words,
 /* Replays a section of a trace file, numbered from 0: at most limit records of
  * it, each as the same call by itself, with an empty output. Gives 24, 25 or 26
  * with no record done; 27 with the records before the wrong one done; else 0,
- * whatever the records are answered: 21 each where the image is none. With 0 and
+ * whatever the records are answered: 21 each where no bank is kept. With 0 and
  * 27 told takes three words, or as many of them as it has: how many records were
  * done, value and number of the last one's answer (0, 0, 0 if none was). */
 uint32_t thymewax_replay(uint32_t *image, size_t image_words,
+                         uint8_t *flags, uint32_t *commands, uint32_t *payloads,
                          uint32_t *store, size_t store_words,
                          const uint8_t *file, size_t file_bytes,
                          uint32_t section, size_t limit,
@@ -180,11 +198,19 @@ struct thymewax_answer {
     uint32_t number; /* of enum thymewax_number */
 };
 
+/* What is kept of a bank: image and tables, one piece of memory. */
+struct thymewax_kept {
+    uint32_t image[THYMEWAX_IMAGE_WORDS];
+    uint32_t commands[THYMEWAX_OFFLOAD_WORDS];
+    uint32_t payloads[THYMEWAX_OFFLOAD_WORDS];
+    uint8_t flags[THYMEWAX_FLAG_BYTES];
+};
+
 /* A model. thymewax_model_set_up fills it; the memory that it points to stays the
  * caller's, and must live as long as the model is used. Before a trigger, lend an
- * output: set output and output_words. To save a model, copy image and store. */
+ * output: set output and output_words. To save a model, copy kept and store. */
 struct thymewax {
-    uint32_t image[THYMEWAX_IMAGE_WORDS];
+    struct thymewax_kept kept;
     uint32_t *store; /* the queues: the five capacities together in words */
     size_t store_words;
     uint32_t *output; /* what a burst reads: a word for each of its reads */
@@ -223,14 +249,19 @@ static inline uint32_t thymewax_model_set_up(struct thymewax *m,
                                              uint32_t id,
                                              uint32_t *store, size_t store_words)
 {
-    /* No bank has this image. It stays where the set-up is refused. */
+    /* Kept of no bank: it stays where the set-up is refused. */
     for (int i = 0; i < THYMEWAX_IMAGE_WORDS; i++)
-        m->image[i] = 0;
+        m->kept.image[i] = 0;
+    for (int i = 0; i < THYMEWAX_OFFLOAD_WORDS; i++)
+        m->kept.commands[i] = m->kept.payloads[i] = 0;
+    for (int i = 0; i < THYMEWAX_FLAG_BYTES; i++)
+        m->kept.flags[i] = 0;
     m->store = store;
     m->store_words = store_words;
     m->output = NULL;
     m->output_words = 0;
-    return thymewax_set_up(m->image, THYMEWAX_IMAGE_WORDS,
+    return thymewax_set_up(m->kept.image, THYMEWAX_IMAGE_WORDS,
+                           m->kept.flags, m->kept.commands, m->kept.payloads,
                            capacities[0], capacities[1], capacities[2],
                            capacities[3], capacities[4],
                            watermarks[0], watermarks[1], watermarks[2],
@@ -242,7 +273,8 @@ static inline struct thymewax_answer thymewax_model_step(struct thymewax *m,
                                                          uint32_t letter, uint32_t offset,
                                                          uint32_t first, uint32_t second)
 {
-    uint64_t packed = thymewax_step(m->image, THYMEWAX_IMAGE_WORDS,
+    uint64_t packed = thymewax_step(m->kept.image, THYMEWAX_IMAGE_WORDS,
+                                    m->kept.flags, m->kept.commands, m->kept.payloads,
                                     m->store, m->store_words,
                                     m->output, m->output_words,
                                     letter, offset, first, second);
@@ -337,7 +369,8 @@ static inline struct thymewax_replayed thymewax_model_replay(struct thymewax *m,
 {
     uint32_t told[3] = {0, 0, 0};
     struct thymewax_replayed replayed;
-    replayed.number = thymewax_replay(m->image, THYMEWAX_IMAGE_WORDS,
+    replayed.number = thymewax_replay(m->kept.image, THYMEWAX_IMAGE_WORDS,
+                                      m->kept.flags, m->kept.commands, m->kept.payloads,
                                       m->store, m->store_words,
                                       file, file_bytes, section, limit, told, 3);
     replayed.count = told[0];

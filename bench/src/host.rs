@@ -30,7 +30,7 @@ fn set_up(cap: u32) -> SetUp {
 /// A run on a fresh model over the caller's store, which the model has until the run ends.
 fn on_model(cap: u32, store: &mut Vec<u32>, run: impl FnOnce(&mut Model) -> Ran) -> Ran {
     let fresh = Model::set_up(&set_up(cap)).expect("a set-up in range");
-    let mut model = Model::from_parts(*fresh.image(), mem::take(store), Vec::new());
+    let mut model = Model::from_parts(fresh.kept().clone(), mem::take(store), Vec::new());
     let ran = run(&mut model);
     (_, *store, _) = model.into_parts();
     ran

@@ -1,5 +1,5 @@
 //! The proved model: the functions of the archives that `rt staticlib timing_list` and
-//! `rt staticlib timing_each` write, and the ways to replay a trace by them and by libhost.a.
+//! `rt staticlib timing_each` write, and the ways to replay a trace by them and by libthymewax.a.
 
 use crate::host;
 use bench::plain::replay::Ran;
@@ -51,11 +51,11 @@ pub const VARIANTS: [Variant; 4] = [
         run: |cap, store, file| timed(replay_each, cap, store, file),
     },
     Variant {
-        name: "libhost: one call for the trace",
+        name: "libthymewax: one call for the trace",
         run: host::replay,
     },
     Variant {
-        name: "libhost: a call for each record",
+        name: "libthymewax: a call for each record",
         run: host::step_by_step,
     },
 ];

@@ -9,15 +9,15 @@ fn main() {
     let folder = env::var_os("THYMEWAX_LIB_DIR")
         .filter(|named| !named.is_empty())
         .map_or(written, Into::into);
-    let archive = folder.join("libhost.a");
+    let archive = folder.join("libthymewax.a");
     println!("cargo:rustc-link-search=native={}", folder.display());
-    println!("cargo:rustc-link-lib=static=host");
+    println!("cargo:rustc-link-lib=static=thymewax");
     println!("cargo:rerun-if-env-changed=THYMEWAX_LIB_DIR");
     println!("cargo:rerun-if-changed={}", archive.display());
     // A check or a build of the documents needs no archive, so this is no error here.
     if !archive.exists() {
         println!(
-            "cargo:warning={} is not there: make it with `rt staticlib host`, or name its folder \
+            "cargo:warning={} is not there: make it with `tools/archive`, or name its folder \
              by THYMEWAX_LIB_DIR, as a full path",
             archive.display()
         );

@@ -169,7 +169,7 @@ def without_library():
     equal('without library', 'import', (status, output[:6], message), (0, b"b'I3TR", b''))
     code = 'import thymewax\ntry: thymewax.Model.set_up()\nexcept OSError as e: print(e)'
     _, output, _ = python(code, THYMEWAX_LIB_DIR=NO_FOLDER)
-    for part in (NO_FOLDER, 'rt staticlib host', 'python3 -m thymewax.build'):
+    for part in (NO_FOLDER, 'tools/archive', 'python3 -m thymewax.build'):
         equal('without library', part, part.encode() in output, True)
 
 
@@ -189,7 +189,7 @@ def build():
         equal('build', 'used', python(code, THYMEWAX_LIB_DIR=name), (0, b'00000100 00\n', b''))
         os.utime(made, (0, 0))
         status, _, message = python(code, THYMEWAX_LIB_DIR=name)
-        equal('build', 'older', (status, b'is older than libhost.a' in message), (1, True))
+        equal('build', 'older', (status, b'is older than libthymewax.a' in message), (1, True))
         made.write_bytes(b'no library')
         status, _, message = python(code, THYMEWAX_LIB_DIR=name)
         equal('build', 'no library', (status, b'cannot be used' in message), (1, True))
@@ -201,7 +201,7 @@ def build():
     status, output, message = run([PYTHON, '-m', 'thymewax.build'], PYTHONPATH=str(PACKAGE),
                                   THYMEWAX_LIB_DIR=NO_FOLDER)
     equal('build', 'no archive', (status, output, message.count(b'\n')), (1, b'', 1))
-    equal('build', 'no archive', b'rt staticlib host' in message, True)
+    equal('build', 'no archive', b'tools/archive' in message, True)
 
 
 def example():

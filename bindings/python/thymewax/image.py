@@ -1,4 +1,4 @@
-"""The image of a bank by names: what each of its 200 words holds.
+"""What is kept of a bank by names: what each word of the image holds, then the tables, a word a flag.
 
 For tools that look. What is read here is the model's own; nothing is worked out again.
 """
@@ -13,7 +13,12 @@ from typing import NamedTuple
 from .formats import Device
 from .registers import Irq
 
-WORDS = 200
+# Words of the image that the archive takes; flags, commands and payloads follow.
+IMAGE_WORDS = 40
+FLAGS = 128
+OFFLOAD_WORDS = 16
+TABLES = FLAGS + 2 * OFFLOAD_WORDS
+WORDS = IMAGE_WORDS + TABLES
 _RING_WORDS = 4
 # The place of a queue's level among its words.
 _LEVEL = 3
@@ -81,7 +86,7 @@ class Transfer(NamedTuple):
 
 
 class Image(tuple[int, ...]):
-    """The words of an image at one moment."""
+    """The words of image and tables at one moment."""
 
     __slots__ = ()
 

@@ -1,4 +1,4 @@
-"""The shared library: where it lies, how it is made from the archive, its five functions."""
+"""The shared library: where it lies, how it is made from the archive, its six functions."""
 
 from __future__ import annotations
 
@@ -8,26 +8,30 @@ import os
 import pathlib
 import subprocess
 
-from . import image
-
-ARCHIVE = 'libhost.a'
-LIBRARY = 'libthymewax.so'
+ARCHIVE = 'libthymewax.a'
+# Of layout and calls: the archive and the header have the same.
+VERSION = 1
+LIBRARY = 'libthymewax_python.so'
 # A folder that has both, in place of the repository's target/staticlib.
 FOLDER_VARIABLE = 'THYMEWAX_LIB_DIR'
-MAKE_ARCHIVE = 'rt staticlib host'
+MAKE_ARCHIVE = 'tools/archive'
 _PACKAGES = pathlib.Path(__file__).resolve().parents[1]
 MAKE_LIBRARY = 'PYTHONPATH=%s python3 -m thymewax.build' % _PACKAGES
 
 Word = ctypes.c_uint32
 Words = ctypes.POINTER(ctypes.c_uint32)
+Bytes = ctypes.POINTER(ctypes.c_uint8)
 _Size = ctypes.c_size_t
+# An image and its length; flags, commands and payloads where they lie.
+_KEPT = [Words, _Size, Bytes, Words, Words]
 # Result and arguments, as in include/thymewax.h.
 _PROTOTYPES = {
+    'thymewax_version': (Word, []),
     'thymewax_image_words': (_Size, []),
-    'thymewax_set_up': (Word, [Words, _Size, *[Word] * 11]),
-    'thymewax_step': (ctypes.c_uint64, [Words, _Size] * 3 + [Word] * 4),
-    'thymewax_replay': (Word, [Words, _Size, Words, _Size, ctypes.c_char_p, _Size, Word, _Size,
-                               Words, _Size]),
+    'thymewax_set_up': (Word, [*_KEPT, *[Word] * 11]),
+    'thymewax_step': (ctypes.c_uint64, [*_KEPT, *[Words, _Size] * 2, *[Word] * 4]),
+    'thymewax_replay': (Word, [*_KEPT, Words, _Size, ctypes.c_char_p, _Size, Word, _Size, Words,
+                               _Size]),
     'thymewax_section': (Word, [ctypes.c_char_p, _Size, Word, Words, _Size]),
 }
 
@@ -75,9 +79,9 @@ def opened(path: pathlib.Path) -> ctypes.CDLL:
             function.restype, function.argtypes = result, arguments
     except (OSError, AttributeError) as error:
         raise LibraryMissing('%s cannot be used: %s' % (path, error)) from None
-    if library.thymewax_image_words() != image.WORDS:
-        raise LibraryMissing('%s has images of %d words, not %d'
-                             % (path, library.thymewax_image_words(), image.WORDS))
+    if library.thymewax_version() != VERSION:
+        raise LibraryMissing('%s has version %d, not %d'
+                             % (path, library.thymewax_version(), VERSION))
     return library
 
 

@@ -84,15 +84,21 @@ def _letter(letter: str | int) -> int:
 
 
 class Model:
-    """A controller: an image of its bank, the store of its queues, and the output that it lends to
+    """A controller: image and tables of its bank, the store of its queues, and the output that it lends to
     bursts. `Model.set_up(...)` makes a fresh one; `Model(image, store, output)` one that goes on
     where another was. Threads may share a model: its calls are made one at a time."""
 
     def __init__(self, image: Sequence[int], store: Sequence[int],
                  output: Sequence[int] = ()) -> None:
-        """Words of any number and any values: a model of words that no bank has answers 21."""
+        """`image` is a row as `image()` gives it, words of any number and any values: a model of words
+        that no bank has answers 21. A flag above 255, which no bank has, is kept as 255."""
         self._library = library.load()
-        self._image = _memory(image, 'image')
+        row = [_word(word, 'image') for word in image]
+        tables = [*row[max(len(row) - layout.TABLES, 0):], *[0] * layout.TABLES][:layout.TABLES]
+        self._image = _memory(row[:max(len(row) - layout.TABLES, 0)], 'image')
+        self._flags = (ctypes.c_uint8 * layout.FLAGS)(*(min(flag, 255) for flag in tables[:layout.FLAGS]))
+        self._commands = _memory(tables[layout.FLAGS:-layout.OFFLOAD_WORDS], 'image')
+        self._payloads = _memory(tables[-layout.OFFLOAD_WORDS:], 'image')
         self._store = _memory(store, 'store')
         self._output = _memory(output, 'output')
         self._lock = threading.Lock()
@@ -103,11 +109,17 @@ class Model:
         out of range."""
         chosen = SetUp(**numbers)
         given = [_word(number, name) for name, number in chosen._asdict().items()]
-        words = _memory([0] * layout.WORDS, 'image')
-        number = library.load().thymewax_set_up(words, len(words), *given)
+        words = _word(output_words, 'output_words')
+        model = cls([0] * layout.WORDS, (), [0] * words)
+        number = model._library.thymewax_set_up(*model._kept(), *given)
         if number:
             raise Refused(number)
-        return cls(words, [0] * sum(chosen[:5]), [0] * _word(output_words, 'output_words'))
+        model._store = _memory([0] * sum(chosen[:5]), 'store')
+        return model
+
+    def _kept(self) -> tuple[object, ...]:
+        """What every call takes first."""
+        return self._image, len(self._image), self._flags, self._commands, self._payloads
 
     def step(self, letter: str | int, offset: int = 0, first: int = 0, second: int = 0) -> Answer:
         """A call by the numbers of a trace's record; the trigger has the letter G. Numbers that
@@ -116,8 +128,8 @@ class Model:
                    _word(second, 'second value'))
         with self._lock:
             packed = self._library.thymewax_step(
-                self._image, len(self._image), self._store, len(self._store), self._output,
-                len(self._output), *numbers)
+                *self._kept(), self._store, len(self._store), self._output, len(self._output),
+                *numbers)
         return Answer(packed & 0xffffffff, packed >> 32)
 
     def make(self, call: Call) -> Answer:
@@ -172,8 +184,8 @@ class Model:
         numbers = _word(section, 'section'), fits(limit, 64, 'limit')
         with self._lock:
             number = self._library.thymewax_replay(
-                self._image, len(self._image), self._store, len(self._store), file, len(file),
-                *numbers, told, len(told))
+                *self._kept(), self._store, len(self._store), file, len(file), *numbers, told,
+                len(told))
         count, value, last = told
         return Replayed(number, count, Answer(value, last))
 
@@ -181,7 +193,7 @@ class Model:
         """A snapshot: a model of its own with these words. Calls on one leave the other as
         it is."""
         with self._lock:
-            return type(self)(self._image, self._store, self._output)
+            return type(self)(self._row(), self._store, self._output)
 
     def __copy__(self) -> Model:
         return self.copy()
@@ -195,10 +207,14 @@ class Model:
         with self._lock:
             self._output = output
 
+    def _row(self) -> tuple[int, ...]:
+        return (*_words(self._image), *bytes(self._flags), *_words(self._commands),
+                *_words(self._payloads))
+
     def image(self) -> Image:
-        """The image as it is now."""
+        """Image and tables as they are now, in one row."""
         with self._lock:
-            return Image(_words(self._image))
+            return Image(self._row())
 
     def store(self) -> tuple[int, ...]:
         """The store as it is now."""

@@ -26,7 +26,7 @@
 //! # Ok::<(), thymewax::Refusal>(())
 //! ```
 //!
-//! The model itself is the archive `libhost.a`, which is proved to do what its definitions say. This
+//! The model itself is the archive `libthymewax.a`, which is proved to do what its definitions say. This
 //! crate adds types to it and no rules.
 
 #![deny(missing_docs)]
@@ -44,7 +44,8 @@ mod trace;
 
 pub use answer::{Answer, Refusal};
 pub use call::Call;
-pub use model::{image_words, Model, IMAGE_WORDS};
+pub use model::{image_words, version, Kept, Model, IMAGE_WORDS, VERSION};
+pub use raw::Tables;
 pub use number::Number;
 pub use set_up::{Queue, SetUp};
 pub use trace::{section, sections, Replayed};

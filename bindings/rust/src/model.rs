@@ -1,9 +1,18 @@
 //! One controller: its image, its store, its output, and the calls on them.
 
-use crate::{raw, Answer, Call, Number, Refusal, Replayed, SetUp};
+use crate::raw::{self, Tables};
+use crate::{Answer, Call, Number, Refusal, Replayed, SetUp};
+
+/// The version of layout and calls that this crate is written for.
+pub const VERSION: u32 = 1;
+
+/// The version that the archive tells. [`VERSION`], unless another one is linked.
+pub fn version() -> u32 {
+    raw::version()
+}
 
 /// How many words the image of a model has.
-pub const IMAGE_WORDS: usize = 200;
+pub const IMAGE_WORDS: usize = 40;
 
 /// How many words the archive says that an image has. [`IMAGE_WORDS`], unless the archive is of
 /// another version; set-ups are then refused with [`Number::NOT_WELL_FORMED`].
@@ -11,11 +20,28 @@ pub fn image_words() -> usize {
     raw::image_words()
 }
 
+/// What is kept of a bank: all of the state but the words in the queues.
+#[derive(Clone, Debug, PartialEq, Eq)]
+pub struct Kept {
+    /// The state but for the tables.
+    pub image: [u32; IMAGE_WORDS],
+    /// The device table and the offload words.
+    pub tables: Tables,
+}
+
+impl Kept {
+    /// Zeros, which no bank has.
+    pub const NONE: Kept = Kept {
+        image: [0; IMAGE_WORDS],
+        tables: Tables::CLEAR,
+    };
+}
+
 /// One controller.
 ///
-/// It owns three pieces of memory: the image, which is all of its state but the words in the queues,
-/// the store with these words, and the output, where bursts leave what they read. They can be looked
-/// at and kept, and a model can be made of them again, so a clone or the three parts are a snapshot.
+/// It owns its memory: what is kept of the bank, an image of the state and the tables; the store with
+/// the words in the queues; and the output, where bursts leave what they read. They can be looked at
+/// and kept, and a model can be made of them again, so a clone or the parts are a snapshot.
 ///
 /// ```
 /// use thymewax::{registers, Model, SetUp};
@@ -38,7 +64,7 @@ pub fn image_words() -> usize {
 /// ```
 #[derive(Clone, Debug, PartialEq, Eq)]
 pub struct Model {
-    image: [u32; IMAGE_WORDS],
+    kept: Kept,
     store: Vec<u32>,
     output: Vec<u32>,
 }
@@ -48,14 +74,20 @@ impl Model {
     ///
     /// Refused with [`Number::SET_UP_OUT_OF_RANGE`] if a number of the set-up is out of its range.
     pub fn set_up(set_up: &SetUp) -> Result<Model, Refusal> {
-        let mut image = [0; IMAGE_WORDS];
+        let mut kept = Kept::NONE;
         let capacities = set_up.capacities();
-        let number = raw::set_up(&mut image, capacities, set_up.watermarks(), set_up.id);
+        let number = raw::set_up(
+            &mut kept.image,
+            &mut kept.tables,
+            capacities,
+            set_up.watermarks(),
+            set_up.id,
+        );
         match Number::new(number) {
             Number::DONE => {
                 let words: u32 = capacities.iter().sum();
                 let store = vec![0; words as usize];
-                Ok(Model::from_parts(image, store, Vec::new()))
+                Ok(Model::from_parts(kept, store, Vec::new()))
             }
             refused => Err(Refusal::new(refused)),
         }
@@ -63,25 +95,25 @@ impl Model {
 
     /// A model of parts that were kept.
     ///
-    /// Any parts will do. With an image that is not well formed, every call is answered
+    /// Any parts will do. With what is kept of no well-formed bank, every call is answered
     /// [`Number::NOT_WELL_FORMED`]; with a store that has not one word for each place of the five
-    /// queues, [`Number::STORE_LENGTH`]. Damage that leaves the image well formed is not seen.
-    pub fn from_parts(image: [u32; IMAGE_WORDS], store: Vec<u32>, output: Vec<u32>) -> Model {
+    /// queues, [`Number::STORE_LENGTH`]. Damage that leaves it well formed is not seen.
+    pub fn from_parts(kept: Kept, store: Vec<u32>, output: Vec<u32>) -> Model {
         Model {
-            image,
+            kept,
             store,
             output,
         }
     }
 
-    /// Image, store and output, the parts for [`from_parts`](Model::from_parts).
-    pub fn into_parts(self) -> ([u32; IMAGE_WORDS], Vec<u32>, Vec<u32>) {
-        (self.image, self.store, self.output)
+    /// What is kept, store and output, the parts for [`from_parts`](Model::from_parts).
+    pub fn into_parts(self) -> (Kept, Vec<u32>, Vec<u32>) {
+        (self.kept, self.store, self.output)
     }
 
     /// All of the state but the words in the queues.
-    pub fn image(&self) -> &[u32; IMAGE_WORDS] {
-        &self.image
+    pub fn kept(&self) -> &Kept {
+        &self.kept
     }
 
     /// The memory of the queues, end to end: CMD, CMDR, SDO, SDI, IBI.
@@ -128,7 +160,8 @@ impl Model {
     /// ```
     pub fn step_numbers(&mut self, letter: u8, offset: u16, first: u32, second: u32) -> Answer {
         Answer::of_halves(raw::step(
-            &mut self.image,
+            &mut self.kept.image,
+            &mut self.kept.tables,
             &mut self.store,
             &mut self.output,
             [letter.into(), offset.into(), first, second],
@@ -211,7 +244,7 @@ impl Model {
     /// It leaves what the calls leave one by one; each is lent an empty output. With a wrong trace
     /// ([`Number::WRONG_MARK`], [`Number::WRONG_TABLE`], [`Number::NO_SUCH_SECTION`]) no record is
     /// done; at a wrong record ([`Number::WRONG_RECORD`]) those before it are. A record that the
-    /// model refuses does not stop the replay, so with an image that is not well formed each is
+    /// model refuses does not stop the replay, so on what is kept of no well-formed bank each is
     /// answered [`Number::NOT_WELL_FORMED`].
     ///
     /// ```
@@ -233,7 +266,8 @@ impl Model {
     pub fn replay(&mut self, file: &[u8], section: u32, limit: usize) -> Replayed {
         let mut told = [0; 3];
         let number = raw::replay(
-            &mut self.image,
+            &mut self.kept.image,
+            &mut self.kept.tables,
             &mut self.store,
             file,
             section,

@@ -1,4 +1,4 @@
-//! Damaged images. One is answered 21 exactly where it is not that of a well-formed bank by
+//! Damaged images and tables. They are answered 21 exactly where they are not those of a well-formed bank by
 //! `common/formed.rs`; a refusal leaves all memory as it was, and no call makes a bank that is not well
 //! formed.
 
@@ -16,10 +16,9 @@ mod memory;
 mod raw;
 
 use formed::well_formed;
-use images::good_images;
+use images::{good_images, WORDS};
 use lcg::Lcg;
 use memory::{number_of, Memory, Numbers, CALLS, READ_VERSION};
-use thymewax::IMAGE_WORDS;
 
 /// More that change a bank: a reset, a take from each queue, flags, a mode.
 const CHANGES: [Numbers; 7] = [
@@ -70,7 +69,7 @@ impl Had {
     /// Holds the archive to the statement of the test, on one image.
     fn judge(&mut self, image: Vec<u32>) {
         let memory = Memory::around(image);
-        if well_formed(&memory.image) {
+        if well_formed(&memory.row()) {
             self.formed += 1;
             self.accepted(&memory);
         } else {
@@ -92,7 +91,7 @@ impl Had {
             let number = number_of(after.step(numbers));
             assert_ne!(number, 21);
             assert!(
-                well_formed(&after.image),
+                well_formed(&after.row()),
                 "{numbers:x?}: {:x?}",
                 after.image
             );
@@ -117,7 +116,7 @@ fn good_images_are_good() {
 fn one_word_damaged() {
     let mut had = Had::default();
     for image in good_images() {
-        for place in 0..IMAGE_WORDS {
+        for place in 0..WORDS {
             for word in changes(image[place]) {
                 let mut damaged = image.to_vec();
                 damaged[place] = word;
@@ -137,7 +136,7 @@ fn several_words_damaged() {
     let mut lcg = Lcg::new(21);
     let mut had = Had::default();
     for _ in 0..TRIES {
-        let mut damaged = lcg.pick(&images).to_vec();
+        let mut damaged = images[lcg.below(images.len() as u32) as usize].clone();
         for _ in 0..2 + lcg.below(3) {
             let place = match lcg.below(8) {
                 0 => lcg.below(20),

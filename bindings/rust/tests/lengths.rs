@@ -8,21 +8,17 @@ mod memory;
 #[path = "../src/raw.rs"]
 mod raw;
 
-use images::{after, good_images, write};
+use images::{after, good_images, row, write};
 use memory::{number_of, one_record, Memory, Numbers, CALLS, FILL};
-use thymewax::{registers, Model, Number, SetUp, IMAGE_WORDS};
+use raw::Tables;
+use thymewax::{registers, Model, Number, SetUp, IMAGE_WORDS, VERSION};
 
 #[test]
 fn images_of_other_lengths() {
-    let good = *after(&[]).image();
-    for words in [0, 1, 199, 201, 400] {
-        let mut image = good.to_vec();
-        image.resize(words, 0);
-        let memory = Memory {
-            image,
-            store: vec![FILL; 15],
-            output: vec![FILL; 2],
-        };
+    let good = Memory::around(row(after(&[]).kept()));
+    for words in [0, 1, 39, 41, 200] {
+        let mut memory = good.clone();
+        memory.image.resize(words, 0);
         for numbers in CALLS {
             memory.refuses(numbers, 21);
         }
@@ -31,31 +27,42 @@ fn images_of_other_lengths() {
         memory.replays_nothing();
         let mut after = memory.clone();
         for capacity in [4, 0] {
-            let number = raw::set_up(&mut after.image, [capacity; 5], [0; 5], 0);
+            let (image, tables) = (&mut after.image, &mut after.tables);
+            let number = raw::set_up(image, tables, [capacity; 5], [0; 5], 0);
             assert_eq!(number, 21);
         }
         assert!(after == memory, "{words} words: a mark was left");
     }
     assert_eq!(raw::image_words(), IMAGE_WORDS);
+    assert_eq!(raw::version(), VERSION);
 }
 
 #[test]
-fn a_refused_set_up_leaves_the_image() {
+fn a_refused_set_up_leaves_image_and_tables() {
     let fresh = Model::set_up(&SetUp::SESSION).expect("a set-up in range");
+    let filled = Tables {
+        flags: [0xde; 128],
+        commands: [FILL; 16],
+        payloads: [FILL; 16],
+    };
     for queue in 0..5 {
         for wrong in [0, 1025, u32::MAX] {
-            let mut image = [FILL; IMAGE_WORDS];
+            let (mut image, mut tables) = ([FILL; IMAGE_WORDS], filled.clone());
+            let mut set_up = |capacities, marks, id| {
+                let number = raw::set_up(&mut image, &mut tables, capacities, marks, id);
+                (number, image, tables.clone())
+            };
+            let stays = (23, [FILL; IMAGE_WORDS], filled.clone());
             let mut capacities = [4; 5];
             capacities[queue] = wrong;
-            assert_eq!(raw::set_up(&mut image, capacities, [0; 5], 0), 23);
+            assert!(set_up(capacities, [0; 5], 0) == stays);
             let mut marks = [0; 5];
             marks[queue] = 5;
-            assert_eq!(raw::set_up(&mut image, [4; 5], marks, 0), 23);
-            assert_eq!(raw::set_up(&mut image, [4; 5], [0; 5], 256), 23);
-            assert_eq!(image, [FILL; IMAGE_WORDS]);
+            assert!(set_up([4; 5], marks, 0) == stays);
+            assert!(set_up([4; 5], [0; 5], 256) == stays);
             // One in range writes all of it, whatever was there.
-            assert_eq!(raw::set_up(&mut image, [4; 5], [1, 3, 1, 3, 3], 0), 0);
-            assert_eq!(image, *fresh.image());
+            let done = (0, fresh.kept().image, Tables::CLEAR);
+            assert!(set_up([4; 5], [1, 3, 1, 3, 3], 0) == done);
         }
     }
 }
@@ -63,7 +70,7 @@ fn a_refused_set_up_leaves_the_image() {
 #[test]
 fn stores_and_outputs_of_other_lengths() {
     for image in good_images() {
-        let memory = Memory::around(image.to_vec());
+        let memory = Memory::around(image);
         for words in [0, 1, 14, 16, 5120] {
             let mut other = memory.clone();
             other.store.resize(words, FILL);
@@ -90,7 +97,7 @@ fn stores_and_outputs_of_other_lengths() {
 /// Letters that are none, fields without use that are not 0, arguments above their bits.
 #[test]
 fn numbers_that_name_no_call() {
-    let memory = Memory::around(after(&[write(registers::ENABLE, 0)]).image().to_vec());
+    let memory = Memory::around(row(after(&[write(registers::ENABLE, 0)]).kept()));
     let mut short = memory.clone();
     short.store.pop();
     let wrong = |numbers: Numbers| {
@@ -134,11 +141,11 @@ fn numbers_that_name_no_call() {
 #[test]
 fn words_for_results_of_any_length() {
     let file = one_record();
-    let fresh = Memory::around(after(&[]).image().to_vec());
+    let fresh = Memory::around(row(after(&[]).kept()));
     for words in 0..6 {
         let mut memory = fresh.clone();
         let mut told = vec![FILL; words];
-        let number = raw::replay(&mut memory.image, &mut memory.store, &file, 0, 9, &mut told);
+        let number = memory.replay(&file, 0, &mut told);
         let named = [1, 0, 0].into_iter().chain([FILL; 3]);
         assert_eq!(number, 0);
         assert!(told.into_iter().eq(named.take(words)));
@@ -147,7 +154,7 @@ fn words_for_results_of_any_length() {
         for file in [&b""[..], b"I3TR", &file] {
             let before = memory.clone();
             let mut told = vec![FILL; words];
-            let number = raw::replay(&mut memory.image, &mut memory.store, file, 1, 9, &mut told);
+            let number = memory.replay(file, 1, &mut told);
             assert!((24..27).contains(&number));
             assert!(memory == before && told == vec![FILL; words]);
         }

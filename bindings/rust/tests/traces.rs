@@ -57,7 +57,7 @@ fn one_by_one(mut model: Model, calls: &[(Call, Answer)]) -> Model {
 }
 
 fn same_state(replayed: &Model, one_by_one: &Model) {
-    assert!(replayed.image() == one_by_one.image());
+    assert!(replayed.kept() == one_by_one.kept());
     assert!(replayed.store() == one_by_one.store());
 }
 

@@ -3,7 +3,7 @@
 
 use std::error::Error;
 use std::thread;
-use thymewax::{registers, Answer, Call, Model, Number, Queue, Refusal, SetUp, IMAGE_WORDS};
+use thymewax::{registers, Answer, Call, Kept, Model, Number, Queue, Refusal, SetUp, IMAGE_WORDS};
 
 const fn sent_and_shared<T: Send + Sync>() {}
 const _: () = sent_and_shared::<Model>();
@@ -189,7 +189,7 @@ fn a_fresh_model_is_as_it_was_set_up() {
     assert_eq!(model.store().len(), 2 + 3 + 5 + 7 + 11);
     assert_eq!(model.output(), [0; 0]);
     let sizes = [2, 1, 0, 0, 3, 2, 0, 0, 5, 4, 0, 0, 7, 6, 0, 0, 11, 10, 0, 0];
-    assert_eq!(model.image()[..20], sizes);
+    assert_eq!(model.kept().image[..20], sizes);
     for (offset, value) in [
         (registers::VERSION, 0x100),
         (registers::DEVICE_ID, 0xc3),
@@ -251,7 +251,7 @@ fn the_archive_is_of_this_version() {
 #[test]
 fn a_snapshot_goes_on() {
     for state in states() {
-        let image = *state.image();
+        let image = state.kept().clone();
         let (store, output) = (state.store().to_vec(), state.output().to_vec());
         let mut kept = Model::from_parts(image, store, output);
         let mut model = state;
@@ -276,7 +276,9 @@ fn one_record() -> Vec<u8> {
 #[test]
 fn parts_that_no_model_has_are_answered() {
     for word in [0, u32::MAX] {
-        let mut model = Model::from_parts([word; IMAGE_WORDS], vec![7; 20], vec![7]);
+        let mut damaged = Kept::NONE;
+        damaged.image = [word; IMAGE_WORDS];
+        let mut model = Model::from_parts(damaged, vec![7; 20], vec![7]);
         let before = model.clone();
         for call in CALLS {
             let answer = model.step(call);
@@ -296,7 +298,7 @@ fn parts_that_no_model_has_are_answered() {
 fn a_store_of_another_length_is_answered() {
     let good = released();
     for words in [0, 1, 19, 21, 5120] {
-        let mut model = Model::from_parts(*good.image(), vec![7; words], vec![]);
+        let mut model = Model::from_parts(good.kept().clone(), vec![7; words], vec![]);
         let before = model.clone();
         for call in CALLS {
             let answer = model.step(call);

@@ -33,12 +33,12 @@ pub fn regs_ok(g: Regs) -> bool
     (g.ops < 128) & (g.config < 4) & (g.selected < 128)
 }
 
-// Whether all flag bytes are in range, by the largest: a loop without an early exit compiles to a vector maximum.
-pub fn flags_ok(flags: [u8; 128]) -> bool
-    ensures { λ b. ⌜ b ≡ flagsOk flags ⌝ }
+// By the largest flag byte: a loop without an early exit, which compiles to a vector maximum.
+pub fn flags_ok(flags: &[u8]) -> bool
+    ensures { λ b. ⌜ b ≡ flagsOk (now (flags .entry)) ⌝ }
 {
     let mut most: u8 = 0;
-    for i in 0..128 {
+    for i in 0..flags.len() {
         let x = flags[i];
         if most < x {
             most = x;

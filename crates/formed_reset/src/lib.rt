@@ -33,9 +33,12 @@ fn control_clear(c: Control) -> bool
         & (c.burst == 0)
 }
 
-// Whether a bank is released, or is as `formed.reset` asks.
+// Whether a bank is released, or is as `formed.reset` asks. Out of reset nothing is looked at: a branch, since few calls meet a bank in reset.
 pub fn reset_ok(c: Control, p: Phase, l: Counts, h: Heads) -> bool
     ensures { λ b. ⌜ ((k : Counts) → b ≡ resetOk c p (queuesOf k l h)) ⌝ }
 {
-    !c.held | (queues_clear(l, h) & control_clear(c) & phases::is_idle(p))
+    if !c.held {
+        return true;
+    }
+    queues_clear(l, h) & control_clear(c) & phases::is_idle(p)
 }

@@ -1,22 +1,24 @@
 // A part of well formed: the length of the open transfer (`formed.fields`), the bytes that it has moved
 // (`formed.moved`) and its part word (`formed.part`).
 ghost use mathlib.Core.Path.{_≡_};
-ghost use Prim.Native.Nat.{_-_, _*_, _^_, _<_};
+ghost use Prim.Native.Nat.{_-_, _*_, _%_, _^_};
+ghost use lib.Dec.{eqb};
 ghost use Rattle.bank.specs.Formed.{transferOk, phaseOk};
 use bank::Phase;
 use bank::Transfer;
 use ring::Bytes;
 
-// What a part word with `parts` bytes at its top is a multiple of.
-fn unit(parts: u32) -> u64
-    ensures { λ n. ⌜ (n ≡ 2 ^ (32 - 8 * parts)) × (0 < n) ⌝ }
+// Whether a part word with `parts` bytes at its top has nothing below them. By constants: a remainder by a number that is
+// not known is a division.
+fn part_ok(part: u32, parts: u32) -> bool
+    ensures { λ b. ⌜ b ≡ eqb (part % 2 ^ (32 - 8 * parts)) 0 ⌝ }
 {
     match parts {
-        0 => 4294967296,
-        1 => 16777216,
-        2 => 65536,
-        3 => 256,
-        _ => 1,
+        0 => part == 0,
+        1 => part % 16777216 == 0,
+        2 => part % 65536 == 0,
+        3 => part % 256 == 0,
+        _ => true,
     }
 }
 
@@ -24,7 +26,7 @@ fn unit(parts: u32) -> u64
 pub fn transfer_ok(t: Transfer, most: Bytes, parts: Bytes) -> bool
     ensures { λ b. ⌜ b ≡ transferOk t (most .0) (parts .0) ⌝ }
 {
-    (t.length.0 < 4096) & (t.moved.0 <= most.0) & (t.part as u64 % unit(parts.0) == 0)
+    (t.length.0 < 4096) & (t.moved.0 <= most.0) & part_ok(t.part, parts.0)
 }
 
 // Whether the transfer that is open outside a burst is well formed.

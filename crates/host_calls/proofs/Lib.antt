@@ -1,1 +1,1 @@
-pub mod Unsettled
+pub mod Left

@@ -1,112 +1,105 @@
-// The calls of a host on an image that has its length: a set-up, the trigger, and the call of a record. Layers, no
-// interface.
+// The calls of a host on pieces that have their lengths: a set-up, and one call. Layers, no interface.
 ghost use mathlib.Core.Path.{_≡_};
 ghost use mathlib.Core.Bool.{true};
 ghost use lib.ListN.{length};
-ghost use Prim.Native.Nat.{ℕ};
-ghost use mathlib.Core.List.{List, []};
-ghost use Rattle.answer.specs.Given.{controller, tablesOf, givenOut};
-ghost use Rattle.effect.specs.Effects.{effectOf};
-ghost use Rattle.host_calls.specs.Outs.{refusedOut, settledOut};
-ghost use Rattle.model.specs.declared.Call.the-variants.{Trigger};
+ghost use Rattle.bank.specs.Formed.{wellFormed};
+ghost use Rattle.model.specs.View.{tables};
 ghost use Rattle.model.specs.Engine.{step};
 ghost use Rattle.model.specs.Rings.{rings};
-ghost use Rattle.record_model.specs.Record.{recordAt};
-ghost use Rattle.image_model.specs.Image.{size, bankIn, encoded};
-ghost use Rattle.host_model.specs.Host.{setUpIn, hosted, stepIn, packedOf};
-use answer::Out;
-use bank::Answer;
-use bank::Bank;
+ghost use Rattle.answer.specs.Given.{bankWith, controller};
+ghost use Rattle.image_model.specs.Image.{size, encoded, kept, sized};
+ghost use Rattle.host_model.specs.Host.{setUpIn, callOf, hosted, stepIn, packedOf};
+use bank::Heads;
 use bank::Sizes;
-use effect::Effect;
+use bank::State;
+use letters::Parsed;
+use model::Call;
 
-// A set-up, whose bank is written into the image where it is done.
-pub fn set_up(image: &mut [u32], caps: Sizes, marks: Sizes, id: u32) -> u32
-    requires { ⌜ length (now image) ≡ size ⌝ }
-    ensures { λ n. ⌜ (let h = setUpIn (now (image .entry)) caps marks id in (n ≡ h .number) × (now (image .exit) ≡ h .image)) ⌝ }
+// A set-up. Where it is done, image and tables take its bank.
+pub fn set_up(
+    image: &mut [u32],
+    flags: &mut [u8; 128],
+    commands: &mut [u32; 16],
+    payloads: &mut [u32; 16],
+    caps: Sizes,
+    marks: Sizes,
+    id: u32,
+) -> u32
+    requires { ⌜ (length (now image) ≡ size) × (sized (kept (now image) (now flags) (now commands) (now payloads)) ≡ true) ⌝ }
+    ensures { λ n. ⌜ (let h = setUpIn (kept (now (image .entry)) (now (flags .entry)) (now (commands .entry)) (now (payloads .entry))) caps marks id in (n ≡ h .number) × (kept (now (image .exit)) (now (flags .exit)) (now (commands .exit)) (now (payloads .exit)) ≡ h .kept)) ⌝ }
 {
     let r = setup::set_up(caps, marks, id);
     let number = r.answer.number;
-    if number == 0 {
-        image::encode(r.bank, image);
+    if number != 0 {
+        return number;
     }
+    let f = r.bank.flags;
+    let c = r.bank.commands;
+    let p = r.bank.payloads;
+    *flags = f;
+    *commands = c;
+    *payloads = p;
+    image_words::encode(r.bank.state, r.bank.heads, image);
     number
 }
 
-// A refusal: the bank as it was, value 0.
-fn refused(b: Bank, n: u32) -> Out
-    ensures { λ r. ⌜ r ≡ refusedOut b n ⌝ }
+// The call that numbers name.
+fn call_of(letter: u32, offset: u32, first: u32, second: u32) -> Parsed
+    ensures { λ p. ⌜ p ≡ callOf letter offset first second ⌝ }
 {
-    let a = Answer {
-        value: 0,
-        number: n,
-    };
-    Out { bank: b, answer: a }
-}
-
-// The bank after an effect that leaves queues and tables.
-fn settled(b: Bank, e: Effect) -> Out
-    ensures { λ r. ⌜ r ≡ settledOut b (effectOf e (tablesOf b [])) ⌝ }
-{
-    let s = e.state;
-    let a = e.answer;
-    let g = s.regs;
-    let c = s.control;
-    let p = s.phase;
-    let mut next = b;
-    next.state = bank::state_with(b.state.caps, b.state.levels, g, c, p);
-    Out {
-        bank: next,
-        answer: a,
+    if host_parts::is_trigger(letter, offset, first, second) {
+        return Parsed::Named(Call::Trigger);
     }
-}
-
-// The trigger on a bank. It touches no queue and no table, and of store and output it asks the lengths alone: so its
-// decision needs no settling, and the archive's one loop stays the only caller of `serve::step_parts`.
-fn triggered(b: Bank, store: usize, output: usize) -> Out
-    ensures { λ y. ⌜ ((s o : List ℕ) → length s ≡ store → length o ≡ output → givenOut y s o ≡ step rings (controller b s o) Trigger) ⌝ }
-{
-    let n = faults::fault(b, store);
-    if n != 0 {
-        return refused(b, n);
+    if !host_parts::fits(letter, offset) {
+        return Parsed::Skipped;
     }
-    let f = b.flags;
-    let c = b.commands;
-    if burst_commands::is_bursting(b.state.control) {
-        let lacks = trigger::is_output_short(b.state.regs, &c, output);
-        let barred = offload::bar(b.state, lacks, 6);
-        return settled(b, barred);
-    }
-    let e = trigger::trigger(b.state, &f, &c, output);
-    settled(b, e)
+    record::named((letter % 256) as u8, 0, offset, first, second)
 }
 
-// The trigger on a bank, which is then written into the image.
-pub fn trigger(b: Bank, image: &mut [u32], store: &mut [u32], output: &mut [u32]) -> u64
-    requires { ⌜ length (now image) ≡ size ⌝ }
-    ensures { λ r. ⌜ (let h = hosted (step rings (controller b (now (store .entry)) (now (output .entry))) Trigger) in (r ≡ packedOf (h .answer)) × (now (image .exit) ≡ h .image) × (now (store .exit) ≡ h .store) × (now (output .exit) ≡ h .output)) ⌝ }
-{
-    let t = triggered(b, store.len(), output.len());
-    image::encode(t.bank, image);
-    host_parts::packed(t.answer)
-}
-
-// The call of a record, on the bank that the image says. A replay of one record, so that the archive
-// has one loop with the calls in it; 27 where the record is wrong.
-pub fn replay_one(
-    b: Bank,
+// A call on a well-formed bank, whose image is then written.
+fn make(
+    s: State,
+    h: Heads,
     image: &mut [u32],
+    flags: &mut [u8; 128],
+    commands: &mut [u32; 16],
+    payloads: &mut [u32; 16],
     store: &mut [u32],
     output: &mut [u32],
-    bytes: [u8; 12],
+    c: Call,
 ) -> u64
-    requires { ⌜ (length (now image) ≡ size) × (encoded (now image) ≡ true) × (b ≡ bankIn (now image)) ⌝ }
-    ensures { λ r. ⌜ (let h = stepIn (recordAt bytes 0) (now (image .entry)) (now (store .entry)) (now (output .entry)) in (r ≡ packedOf (h .answer)) × (now (image .exit) ≡ h .image) × (now (store .exit) ≡ h .store) × (now (output .exit) ≡ h .output)) ⌝ }
+    requires { ⌜ (length (now image) ≡ size) × (wellFormed (bankWith s h (tables (now flags) (now commands) (now payloads) (now output))) ≡ true) ⌝ }
+    ensures { λ r. ⌜ (let x = hosted (step rings (controller (bankWith s h (tables (now (flags .entry)) (now (commands .entry)) (now (payloads .entry)) (now (output .entry)))) (now (store .entry)) (now (output .entry))) c) in (r ≡ packedOf (x .answer)) × (kept (now (image .exit)) (now (flags .exit)) (now (commands .exit)) (now (payloads .exit)) ≡ x .kept) × (now (store .exit) ≡ x .store) × (now (output .exit) ≡ x .output)) ⌝ }
 {
-    let y = player::play(b, store, output, &bytes, 1);
-    if y.told.number != 0 {
-        return host_parts::no_call(b);
+    let fault = faults::length_fault(s.caps, store.len());
+    let y = serve::step_parts(s, h, flags, commands, payloads, store, output, fault, c);
+    image_words::encode(y.state, y.heads, image);
+    host_parts::packed(y.answer)
+}
+
+// One call, on words of a state and tables: the bank is tested where the tables lie.
+pub fn step(
+    image: &mut [u32],
+    flags: &mut [u8; 128],
+    commands: &mut [u32; 16],
+    payloads: &mut [u32; 16],
+    store: &mut [u32],
+    output: &mut [u32],
+    letter: u32,
+    offset: u32,
+    first: u32,
+    second: u32,
+) -> u64
+    requires { ⌜ (length (now image) ≡ size) × (sized (kept (now image) (now flags) (now commands) (now payloads)) ≡ true) × (encoded (now image) ≡ true) ⌝ }
+    ensures { λ r. ⌜ (let h = stepIn (callOf letter offset first second) (kept (now (image .entry)) (now (flags .entry)) (now (commands .entry)) (now (payloads .entry))) (now (store .entry)) (now (output .entry)) in (r ≡ packedOf (h .answer)) × (kept (now (image .exit)) (now (flags .exit)) (now (commands .exit)) (now (payloads .exit)) ≡ h .kept) × (now (store .exit) ≡ h .store) × (now (output .exit) ≡ h .output)) ⌝ }
+{
+    let s = image_fields::state_in(image);
+    let h = image_fields::heads_in(image);
+    if !formed::parts_formed(s, h, flags, commands) {
+        return host_parts::refused(21);
     }
-    image::encode(y.bank, image);
-    host_parts::packed(y.told.answer)
+    match call_of(letter, offset, first, second) {
+        Parsed::Named(c) => make(s, h, image, flags, commands, payloads, store, output, c),
+        Parsed::Skipped => host_parts::refused(27),
+    }
 }

@@ -1,4 +1,4 @@
--- Along a list of calls a host has what the model has: a bank that a call left stays in its types and well formed, so it comes back out of its image.
+-- Along a list of calls a host has what the model has: a bank that a call left stays in its types and well formed, so it comes back out of what is kept.
 use Prim.Native.Nat.{ℕ}
 use mathlib.Core.Path.{_≡_, refl, ap, sym, subst, _∙_}
 use mathlib.Core.Bool.{true}
@@ -17,29 +17,29 @@ use Rattle.model.specs.Laws.{StaysWellFormed, SetUpWellFormed, freshController}
 use Rattle.model.proofs.Simulation.{stays-well-formed, set-up-well-formed}
 use Rattle.answer.specs.Given.{controller}
 use Rattle.letters.specs.declared.Parsed.the-variants.{Named}
-use Rattle.image_model.specs.Image.{imageOf}
-use Rattle.image_model.specs.Laws.{EncodedIsRead}
-use Rattle.image_model.proofs.Laws.{Typed, typed-of, typed-is, encoded-is-read}
+use Rattle.image_model.specs.Image.{keptOf}
+use Rattle.image_model.specs.Laws.{KeptIsRead}
+use Rattle.image_model.proofs.Laws.{Typed, typed-of, typed-is, kept-is-read}
 use Rattle.host_model.specs.Host.{Fresh, Hosted, hosted, stepIn}
 use Rattle.host_model.specs.Along.{Ran, ran, hostRan, modelRan, HostedAlong, HostedFromSetUp}
 use Rattle.host_model.proofs.Hosting.{set-up-done}
 use Rattle.host_model.proofs.Types.{step-typed}
 
--- one call on the image of a bank
-pub on-image : (b : Bank) (st o : List ℕ) (c : Call) → Typed b → wellFormed b ≡ true → stepIn (Named c) (imageOf b) st o ≡ hosted (step rings (controller b st o) c)
-unfolding stepIn EncodedIsRead
-on-image b st o c t w =
-    let k = encoded-is-read b (typed-is b t) w in
+-- one call on what is kept of a bank
+pub on-kept : (b : Bank) (st o : List ℕ) (c : Call) → Typed b → wellFormed b ≡ true → stepIn (Named c) (keptOf b) st o ≡ hosted (step rings (controller b st o) c)
+unfolding stepIn KeptIsRead
+on-kept b st o c t w =
+    let k = kept-is-read b (typed-is b t) w in
     rw (k .0) (ap (λ (x : Bank). hosted (step rings (controller x st o) c)) (k .1))
 
-along : (cs : List Lent) (l : Controller) → Typed (l .bank) → wellFormed (l .bank) ≡ true → hostRan (imageOf (l .bank)) (l .store) cs ≡ modelRan l cs
+along : (cs : List Lent) (l : Controller) → Typed (l .bank) → wellFormed (l .bank) ≡ true → hostRan (keptOf (l .bank)) (l .store) cs ≡ modelRan l cs
 unfolding hostRan final answers StaysWellFormed
 along [] l t w = refl
 along (c ∷ cs) l t w =
     let m = rings .lend (c .output) l in
     let s = stepLent rings l c in
-    ap (λ (h : Hosted). let r = hostRan (h .image) (h .store) cs in ran (h .answer ∷ r .answers) (r .image) (r .store)) (on-image (l .bank) (l .store) (c .output) (c .call) t w)
-    ∙ ap (λ (r : Ran). ran (s .answer ∷ r .answers) (r .image) (r .store)) (along cs (s .next) (step-typed m (c .call) t) (stays-well-formed m (c .call) w))
+    ap (λ (h : Hosted). let r = hostRan (h .kept) (h .store) cs in ran (h .answer ∷ r .answers) (r .kept) (r .store)) (on-kept (l .bank) (l .store) (c .output) (c .call) t w)
+    ∙ ap (λ (r : Ran). ran (s .answer ∷ r .answers) (r .kept) (r .store)) (along cs (s .next) (step-typed m (c .call) t) (stays-well-formed m (c .call) w))
 
 pub hosted-along : HostedAlong
 unfolding HostedAlong
@@ -54,6 +54,6 @@ fresh-typed caps marks id z =
 
 pub hosted-from-set-up : HostedFromSetUp
 unfolding HostedFromSetUp SetUpWellFormed
-hosted-from-set-up ws caps marks id store cs n z =
-    ap (λ (f : Fresh). hostRan (f .image) store cs) (sym (set-up-done ws caps marks id n z))
-    ∙ along cs (freshController caps marks id store) (fresh-typed caps marks id z) (set-up-well-formed caps marks id z)
+hosted-from-set-up k caps marks id store cs n z =
+    ap (λ (f : Fresh). hostRan (f .kept) store cs) (sym (set-up-done k caps marks id n z))
+    ∙ along cs (fresh caps marks id store) (fresh-typed caps marks id z) (set-up-well-formed caps marks id z)

@@ -1,8 +1,7 @@
--- What a host's call is, by the tests that the code makes on an image.
+-- What a host's call is, by the tests that the code makes on what is kept.
 use Prim.Native.Nat.{ℕ, _%_, _^_}
-use native.Mathlib.Omega.{arith}
 use mathlib.Core.Path.{_≡_, refl, ap, sym, _∙_}
-use mathlib.Core.Bool.{Bool, true, false, cond}
+use mathlib.Core.Bool.{Bool, true, false, cond, _&&_}
 use mathlib.Core.List.{List}
 use lib.ListN.{length, set}
 use borrow.Author.Tests.{eq-eqb, ne-eqb}
@@ -13,92 +12,77 @@ use Rattle.model.specs.declared.Call.{Call}
 use Rattle.model.specs.Engine.{Step, step}
 use Rattle.model.specs.Rings.{Controller, rings}
 use Rattle.answer.specs.Given.{controller}
-use Rattle.faults.proofs.Guards.{refuses}
 use Rattle.letters.specs.declared.Parsed.{Parsed}
 use Rattle.letters.specs.declared.Parsed.the-variants.{Named, Skipped}
 use Rattle.trace_model.specs.Format.{lookNumber, sectionStart, section}
-use Rattle.record_model.specs.Record.{onward, eachRecord, recordAt}
 use Rattle.playback_model.specs.declared.Report.{Report}
-use Rattle.playback_model.specs.Replay.{Replay, replayBegun, did, wrong, played}
-use Rattle.image_model.specs.Image.{imageOf, bankIn, encoded, isImage}
-use Rattle.image_model.proofs.Words.{same-eq}
-use Rattle.host_model.specs.Host.{setUpIn, Hosted, hosted, refusal, stepIn, tells, toldIn, placedIn, sectionIn}
+use Rattle.image_model.specs.Image.{Kept, keptOf, bankIn, encoded, sized, isKept}
+use Rattle.host_model.specs.Host.{setUpIn, hosted, refusal, madeIn, stepIn, tells, toldIn, placedIn, sectionIn}
 
--- ── Words that are no image ───────────────────────────────────────────────────────────────────────────────────
-pub wrong-size : (ws : List ℕ) → (length ws ≡ 200 → ⊥) → isImage ws ≡ false
-wrong-size ws n = rw (ne-eqb (length ws) 200 n) refl
+-- ── What is kept of no well-formed bank ───────────────────────────────────────────────────────────────────────
+-- an image of its length makes the whole sized where the tables are
+pub sized-is : (k : Kept) → length (k .image) ≡ 40 → length (k .flags) ≡ 128 → length (k .commands) ≡ 16 → length (k .payloads) ≡ 16 → sized k ≡ true
+sized-is k n f c p = rw (eq-eqb (length (k .image)) 40 n, eq-eqb (length (k .flags)) 128 f, eq-eqb (length (k .commands)) 16 c, eq-eqb (length (k .payloads)) 16 p)
 
-pub not-encoded : (ws : List ℕ) → length ws ≡ 200 → encoded ws ≡ false → isImage ws ≡ false
-not-encoded ws n e = rw (eq-eqb (length ws) 200 n, e) refl
+pub unsized : (k : Kept) → (length (k .image) ≡ 40 → ⊥) → sized k ≡ false
+unsized k n = rw (ne-eqb (length (k .image)) 40 n)
 
--- words of a bank are an image just where it is well formed
-pub formed-image : (ws : List ℕ) → length ws ≡ 200 → encoded ws ≡ true → isImage ws ≡ wellFormed (bankIn ws)
-formed-image ws n e = rw (eq-eqb (length ws) 200 n, e) refl
+pub wrong-size : (k : Kept) → (length (k .image) ≡ 40 → ⊥) → isKept k ≡ false
+unfolding isKept
+wrong-size k n = rw (unsized k n) refl
+
+pub not-encoded : (k : Kept) → encoded (k .image) ≡ false → isKept k ≡ false
+unfolding isKept
+not-encoded k e = go (sized k)
+  where
+    go : (b : Bool) → (b && (encoded (k .image) && wellFormed (bankIn k))) ≡ false
+    go true = rw e refl
+    go false = refl
+
+-- words of a state, and tables of their lengths, are kept just where the bank is well formed
+pub formed-kept : (k : Kept) → sized k ≡ true → encoded (k .image) ≡ true → isKept k ≡ wellFormed (bankIn k)
+unfolding isKept
+formed-kept k n e = rw (n, e) refl
+
+pub not-formed : (k : Kept) → wellFormed (bankIn k) ≡ false → isKept k ≡ false
+unfolding isKept
+not-formed k w = go (sized k) (encoded (k .image))
+  where
+    go : (a b : Bool) → (a && (b && wellFormed (bankIn k))) ≡ false
+    go true true = w
+    go true false = refl
+    go false b = refl
 
 -- ── Set-up ────────────────────────────────────────────────────────────────────────────────────────────────────
-module _ (ws : List ℕ) (caps marks : Sizes) (id : ℕ) where
-  pub no-size : (length ws ≡ 200 → ⊥) → record { number = 21; image = ws } ≡ setUpIn ws caps marks id
+module _ (k : Kept) (caps marks : Sizes) (id : ℕ) where
+  pub no-size : sized k ≡ false → record { number = 21; kept = k } ≡ setUpIn k caps marks id
   unfolding setUpIn
-  no-size n = rw (ne-eqb (length ws) 200 n) refl
+  no-size n = rw n refl
 
-  module _ (n : length ws ≡ 200) where
-    pub set-up-done : setUp caps marks id .answer .number ≡ 0 → record { number = setUp caps marks id .answer .number; image = imageOf (setUp caps marks id .bank) } ≡ setUpIn ws caps marks id
+  module _ (n : sized k ≡ true) where
+    pub set-up-done : setUp caps marks id .answer .number ≡ 0 → record { number = setUp caps marks id .answer .number; kept = keptOf (setUp caps marks id .bank) } ≡ setUpIn k caps marks id
     unfolding setUpIn
-    set-up-done z = rw (eq-eqb (length ws) 200 n, eq-eqb (setUp caps marks id .answer .number) 0 z) refl
+    set-up-done z = rw (n, eq-eqb (setUp caps marks id .answer .number) 0 z) refl
 
-    pub set-up-refused : (setUp caps marks id .answer .number ≡ 0 → ⊥) → record { number = setUp caps marks id .answer .number; image = ws } ≡ setUpIn ws caps marks id
+    pub set-up-refused : (setUp caps marks id .answer .number ≡ 0 → ⊥) → record { number = setUp caps marks id .answer .number; kept = k } ≡ setUpIn k caps marks id
     unfolding setUpIn
-    set-up-refused z = rw (eq-eqb (length ws) 200 n, ne-eqb (setUp caps marks id .answer .number) 0 z) refl
+    set-up-refused z = rw (n, ne-eqb (setUp caps marks id .answer .number) 0 z) refl
 
 -- ── One call ──────────────────────────────────────────────────────────────────────────────────────────────────
--- what one record does, and what it left as a call
-abbrev pub oneOf : Parsed → Controller → Replay
-oneOf p l = onward did wrong p (replayBegun 0 l) (λ r. r)
-
-pub one-record : (bytes : List ℕ) (l : Controller) → length bytes ≡ 12 → played 1 bytes l ≡ oneOf (recordAt bytes 0) l
-unfolding eachRecord
-one-record bytes l n = rw n refl
-
-abbrev pub hostedBy : Replay → Hosted
-hostedBy r = record { answer = r .told .answer; image = imageOf (r .left .bank); store = r .left .store; output = r .left .output }
-
-module _ (ws st o : List ℕ) where
-  pub no-image : (p : Parsed) → isImage ws ≡ false → refusal 21 ws st o ≡ stepIn p ws st o
+module _ (k : Kept) (st o : List ℕ) where
+  pub no-bank : (p : Parsed) → isKept k ≡ false → refusal 21 k st o ≡ stepIn p k st o
   unfolding stepIn
-  no-image p e = rw e refl
+  no-bank p e = rw e refl
 
-  module _ (n : length ws ≡ 200) (e : encoded ws ≡ true) where
-    -- the numbers name no call
-    pub no-call : refusal (cond (wellFormed (bankIn ws)) 27 21) ws st o ≡ stepIn Skipped ws st o
-    unfolding stepIn
-    no-call = rw (formed-image ws n e) (go (wellFormed (bankIn ws)))
-      where
-        go : (b : Bool) → refusal (cond b 27 21) ws st o ≡ cond b (refusal 27 ws st o) (refusal 21 ws st o)
-        go true = refl
-        go false = refl
+  -- the numbers name no call
+  pub no-call : (p : Parsed) → isKept k ≡ true → p ≡ Skipped → refusal 27 k st o ≡ stepIn p k st o
+  unfolding stepIn
+  no-call p e f = rw e (sym (ap (λ (x : Parsed). madeIn x k st o) f))
 
-    -- a bank that is not well formed answers 21 and stays, so its words do
-    pub one-call : (c : Call) → hosted (step rings (controller (bankIn ws) st o) c) ≡ stepIn (Named c) ws st o
-    unfolding stepIn
-    one-call c = rw (formed-image ws n e) (go (wellFormed (bankIn ws)) refl)
-      where
-        s : Step Controller
-        s = step rings (controller (bankIn ws) st o) c
-
-        go : (b : Bool) → wellFormed (bankIn ws) ≡ b → hosted s ≡ cond b (hosted s) (refusal 21 ws st o)
-        go true f = refl
-        go false f =
-            ap hosted (sym (refuses (controller (bankIn ws) st o) c 21 (λ z. omega (arith, z)) (rw f refl)))
-            ∙ ap (λ (is : List ℕ). refusal 21 is st o) (same-eq (imageOf (bankIn ws)) ws e)
-
-    -- a replay of one record: its call was made, or it is wrong
-    pub one-right : (p : Parsed) (r : Replay) → r ≡ oneOf p (controller (bankIn ws) st o) → r .told .number ≡ 0 → hostedBy r ≡ stepIn p ws st o
-    one-right (Named c) r e z = ap hostedBy e ∙ one-call c
-    one-right Skipped r e z = absurd (omega (arith, z, ap (λ (x : Replay). x .told .number) e))
-
-    pub one-wrong : (p : Parsed) (r : Replay) → r ≡ oneOf p (controller (bankIn ws) st o) → (r .told .number ≡ 0 → ⊥) → (r .left ≡ controller (bankIn ws) st o) × (refusal (cond (wellFormed (bankIn ws)) 27 21) ws st o ≡ stepIn p ws st o)
-    one-wrong (Named c) r e z = absurd (z (ap (λ (x : Replay). x .told .number) e))
-    one-wrong Skipped r e z = (ap (λ (x : Replay). x .left) e, no-call)
+  -- the call that they name
+  pub one-call : (p : Parsed) (c : Call) (s : Step Controller) → isKept k ≡ true → p ≡ Named c → s ≡ step rings (controller (bankIn k) st o) c → hosted s ≡ stepIn p k st o
+  unfolding stepIn
+  one-call p c s e f g = rw e (ap hosted g ∙ sym (ap (λ (x : Parsed). madeIn x k st o) f))
 
 -- ── What is told, in lent words ───────────────────────────────────────────────────────────────────────────────
 module _ (t : Report) (ts : List ℕ) where

@@ -31,13 +31,13 @@ use Rattle.playback_model.specs.Done.{wanted, EveryReplay, all21, IllFormedRepl
 use Rattle.playback_model.proofs.Laws.{refuses, plays}
 use Rattle.playback_model.proofs.Done.{every-replay}
 use Rattle.playback_model.proofs.IllFormed.{ill-formed-replay}
-use Rattle.image_model.specs.Image.{imageOf, bankIn, isImage}
-use Rattle.image_model.specs.Laws.{ImageIsEncoded}
-use Rattle.image_model.proofs.Laws.{image-is-encoded}
-use Rattle.host_model.specs.Host.{triggers, hosted, refusal, stepIn, Replayed, bankFor, imageAfter, tells, toldIn, leftBy, replayIn, sectionIn}
-use Rattle.host_model.specs.Laws.{CalledIsNamed, NoImageIsRefused, RefusedStays, RefusedReplayStays, RefusedSectionStays, DoneIsTold, FoundIsPlaced, NothingCut}
+use Rattle.image_model.specs.Image.{Kept, keptOf, bankIn, isKept}
+use Rattle.image_model.specs.Laws.{TakenIsKept}
+use Rattle.image_model.proofs.Laws.{taken-is-kept}
+use Rattle.host_model.specs.Host.{triggers, hosted, refusal, stepIn, Replayed, bankFor, keptAfter, tells, toldIn, leftBy, replayIn, sectionIn}
+use Rattle.host_model.specs.Laws.{CalledIsNamed, NotKeptIsRefused, RefusedStays, RefusedReplayStays, RefusedSectionStays, DoneIsTold, FoundIsPlaced, NothingCut}
 use Rattle.host_model.proofs.Calling.{recorded, triggered}
-use Rattle.host_model.proofs.Hosting.{no-image, untold, is-told, is-placed}
+use Rattle.host_model.proofs.Hosting.{no-bank, untold, is-told, is-placed}
 
 -- ── Every call has its numbers ────────────────────────────────────────────────────────────────────────────────
 -- no letter is G
@@ -70,49 +70,49 @@ pub called-is-named : CalledIsNamed
 unfolding CalledIsNamed
 called-is-named = (λ c e. let r = recordOf c in sym (recorded (r .letter) (r .offset) (r .first) (r .second) (not-trigger c)) ∙ as-record c ∙ call-named c e, sym (triggered 0x47 0 0 0 refl))
 
--- ── Words that are no image ───────────────────────────────────────────────────────────────────────────────────
-none-formed : (ws : List ℕ) → isImage ws ≡ false → wellFormed (bankFor ws) ≡ false
+-- ── What is kept of no well-formed bank ───────────────────────────────────────────────────────────────────────
+none-formed : (k : Kept) → isKept k ≡ false → wellFormed (bankFor k) ≡ false
 unfolding wellFormed queuesOk
-none-formed ws e = rw e
+none-formed k e = rw e
 
--- an image says a bank with its words, and other words stay
-same-image : (ws : List ℕ) → imageAfter ws (bankFor ws) ≡ ws
-unfolding ImageIsEncoded
-same-image ws = go (isImage ws) refl
+-- what is kept of a well-formed bank is that of the bank that it says, and anything else stays
+same-kept : (k : Kept) → keptAfter k (bankFor k) ≡ k
+unfolding TakenIsKept
+same-kept k = go (isKept k) refl
   where
-    go : (b : Bool) → isImage ws ≡ b → imageAfter ws (bankFor ws) ≡ ws
-    go true e = rw e (image-is-encoded ws e .1)
+    go : (b : Bool) → isKept k ≡ b → keptAfter k (bankFor k) ≡ k
+    go true e = rw e (taken-is-kept k e .1)
     go false e = rw e
 
-pub no-image-is-refused : NoImageIsRefused
-unfolding NoImageIsRefused replayIn IllFormedReplay
-no-image-is-refused ws e = (
-  λ p st o. sym (no-image ws st o p e),
+pub not-kept-is-refused : NotKeptIsRefused
+unfolding NotKeptIsRefused replayIn IllFormedReplay
+not-kept-is-refused k e = (
+  λ p st o. sym (no-bank k st o p e),
   λ file i limit st ts.
-      let l = controller (bankFor ws) st [] in
+      let l = controller (bankFor k) st [] in
       let t = all21 file i limit in
-      ap (leftBy ws ts) (ill-formed-replay file i limit l (none-formed ws e))
-      ∙ ap (λ (x : List ℕ). record { number = t .number; image = x; store = st; told = toldIn t ts }) (same-image ws),
+      ap (leftBy k ts) (ill-formed-replay file i limit l (none-formed k e))
+      ∙ ap (λ (x : Kept). record { number = t .number; kept = x; store = st; told = toldIn t ts }) (same-kept k),
 )
 
 -- ── A refusal changes nothing ─────────────────────────────────────────────────────────────────────────────────
-stays : (ws st o : List ℕ) (c : Call) → imageOf (bankIn ws) ≡ ws → (let h = hosted (step rings (controller (bankIn ws) st o) c) in let n = h .answer .number in (n ≡ 0 → ⊥) → (n ≡ 19 → ⊥) → h ≡ refusal n ws st o)
+stays : (k : Kept) (st o : List ℕ) (c : Call) → keptOf (bankIn k) ≡ k → (let h = hosted (step rings (controller (bankIn k) st o) c) in let n = h .answer .number in (n ≡ 0 → ⊥) → (n ≡ 19 → ⊥) → h ≡ refusal n k st o)
 unfolding RefusalChangesNothing
-stays ws st o c e z t =
-    let s = step rings (controller (bankIn ws) st o) c in
-    let r = refusal-changes-nothing (controller (bankIn ws) st o) c z t in
+stays k st o c e z t =
+    let s = step rings (controller (bankIn k) st o) c in
+    let r = refusal-changes-nothing (controller (bankIn k) st o) c z t in
     ap (λ (l : Controller). hosted (record { answer = s .answer; next = l })) (r .0)
-    ∙ ap (λ (v : ℕ). hosted (record { answer = record { value = v; number = s .answer .number }; next = controller (bankIn ws) st o })) (r .1)
-    ∙ ap (λ (is : List ℕ). refusal (s .answer .number) is st o) e
+    ∙ ap (λ (v : ℕ). hosted (record { answer = record { value = v; number = s .answer .number }; next = controller (bankIn k) st o })) (r .1)
+    ∙ ap (λ (x : Kept). refusal (s .answer .number) x st o) e
 
 pub refused-stays : RefusedStays
-unfolding RefusedStays stepIn ImageIsEncoded
-refused-stays p ws st o = go (isImage ws) refl p
+unfolding RefusedStays stepIn TakenIsKept
+refused-stays p k st o = go (isKept k) refl p
   where
-    go : (b : Bool) → isImage ws ≡ b → (p : Parsed) → (let h = stepIn p ws st o in let n = h .answer .number in (n ≡ 0 → ⊥) → (n ≡ 19 → ⊥) → h ≡ refusal n ws st o)
+    go : (b : Bool) → isKept k ≡ b → (p : Parsed) → (let h = stepIn p k st o in let n = h .answer .number in (n ≡ 0 → ⊥) → (n ≡ 19 → ⊥) → h ≡ refusal n k st o)
     go false e p = rw e (λ z t. refl)
     go true e Skipped = rw e (λ z t. refl)
-    go true e (Named c) = rw e (stays ws st o c (image-is-encoded ws e .1))
+    go true e (Named c) = rw e (stays k st o c (taken-is-kept k e .1))
 
 -- a look-up that is not refused is told by 0 or 27
 told-done : (w : Bool) (n m : ℕ) → n ≡ 0 → m ≡ cond (eqb n 0) (cond w 27 0) n → (m ≡ 0 → ⊥) → (m ≡ 27 → ⊥) → ⊥
@@ -124,25 +124,25 @@ told-done w n m e f g h = go w (f ∙ ap (λ (b : Bool). cond b (cond w 27 0) n)
 
 pub refused-replay-stays : RefusedReplayStays
 unfolding RefusedReplayStays replayIn EveryReplay
-refused-replay-stays file i limit ws st ts z w = go (lookNumber file i) refl
+refused-replay-stays file i limit k st ts z w = go (lookNumber file i) refl
   where
     l : Controller
-    l = controller (bankFor ws) st []
+    l = controller (bankFor k) st []
 
     n : ℕ
     n = lookNumber file i
 
     r : Replayed
-    r = replayIn file i limit ws st ts
+    r = replayIn file i limit k st ts
 
-    go : (x : ℕ) → n ≡ x → r ≡ record { number = r .number; image = ws; store = st; told = ts }
+    go : (x : ℕ) → n ≡ x → r ≡ record { number = r .number; kept = k; store = st; told = ts }
     go zero e = absurd (told-done (anyWrong (wanted file i limit)) n (r .number) e (ap (λ (x : Replay). x .told .number) (every-replay file i limit l)) z w)
     go (suc x) e =
-        let h : n ≡ 0 → ⊥ = λ k. omega (arith, e, k) in
-        let b : replayBegun n l ≡ replayOf file i limit l = refuses file i limit l n refl h in
+        let h : n ≡ 0 → ⊥ = λ y. omega (arith, e, y) in
+        let b : begun n l ≡ replayOf file i limit l = refuses file i limit l n refl h in
         let m : n ≡ r .number = ap (λ (x : Replay). x .told .number) b in
-        let k : tells n ≡ false = rw (ne-eqb n 0 h, ne-eqb n 27 (λ y. w (sym m ∙ y))) in
-        ap (leftBy ws ts) (sym b) ∙ (λ j. record { number = m j; image = same-image ws j; store = st; told = sym (untold (replayBegun n l .told) ts k) j })
+        let u : tells n ≡ false = rw (ne-eqb n 0 h, ne-eqb n 27 (λ y. w (sym m ∙ y))) in
+        ap (leftBy k ts) (sym b) ∙ (λ j. record { number = m j; kept = same-kept k j; store = st; told = sym (untold (begun n l .told) ts u) j })
 
 pub refused-section-stays : RefusedSectionStays
 unfolding RefusedSectionStays sectionIn
@@ -204,12 +204,12 @@ tells-done false n e = rw (eq-eqb n 0 e)
 
 pub done-is-told : DoneIsTold
 unfolding DoneIsTold replayIn EveryReplay
-done-is-told file i limit ws st ts a b c e =
-    let l = controller (bankFor ws) st [] in
+done-is-told file i limit k st ts a b c e =
+    let l = controller (bankFor k) st [] in
     let t = replayOf file i limit l .told in
     let w : tells (t .number) ≡ true = ap (λ (r : Replay). tells (r .told .number)) (every-replay file i limit l) ∙ tells-done (anyWrong (wanted file i limit)) (lookNumber file i) e in
-    let k = few-done file i limit l in
-    let n : t .count % 2 ^ 32 ≡ t .count = mod-eq-of-lt (omega (arith, k)) in
+    let f = few-done file i limit l in
+    let n : t .count % 2 ^ 32 ≡ t .count = mod-eq-of-lt (omega (arith, f)) in
     sym (is-told t (a ∷ b ∷ c ∷ ts) w) ∙ ap (λ (n : ℕ). n ∷ t .answer .value ∷ t .answer .number ∷ ts) n
 
 pub found-is-placed : FoundIsPlaced

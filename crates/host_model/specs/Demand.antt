@@ -10,7 +10,7 @@ use Rattle.answer.specs.Given.{controller}
 use Rattle.letters.specs.declared.Parsed.{Parsed}
 use Rattle.letters.specs.declared.Parsed.the-variants.{Named, Skipped}
 use Rattle.playback_model.specs.Demand.{KeepsDemand}
-use Rattle.image_model.specs.Image.{bankIn}
+use Rattle.image_model.specs.Image.{Kept, bankIn}
 use Rattle.host_model.specs.Host.{setUpIn, callOf, stepIn}
 
 -- what a host gives with a call: any four numbers, also such that name none, and any output
@@ -26,24 +26,24 @@ abbrev pub eventOf : Parsed → Answer → Event
 eventOf (Named c) a = event c a
 eventOf Skipped a = other
 
--- the tally of some calls by their answers, and the image and the store that they left
+-- the tally of some calls by their answers, and what they left
 pub record Counted : Type 0 where
   pub tally : Option Tally
-  pub image : List ℕ
+  pub kept : Kept
   pub store : List ℕ
 
--- each call gets the image and the store that the last one left
-unfoldable pub counted : Option Tally → List ℕ → List ℕ → List Asked → Counted
-counted o ws st [] = record { tally = o; image = ws; store = st }
-counted o ws st (q ∷ qs) =
+-- each call gets image, tables and store as the last one left them
+unfoldable pub counted : Option Tally → Kept → List ℕ → List Asked → Counted
+counted o k st [] = record { tally = o; kept = k; store = st }
+counted o k st (q ∷ qs) =
     let p = callOf (q .letter) (q .offset) (q .first) (q .second) in
-    let h = stepIn p ws st (q .output) in
-    counted (follow o (eventOf p (h .answer))) (h .image) (h .store) qs
+    let h = stepIn p k st (q .output) in
+    counted (follow o (eventOf p (h .answer))) (h .kept) (h .store) qs
 
--- from a set-up answered 0 into any words, with any store: the bank that the last image says and the last store keep the demand
+-- from a set-up answered 0 into anything, with any store: the bank that is said last and the last store keep the demand
 unfoldable pub HostKeepsDemand : Type 0
 HostKeepsDemand =
-    (ws : List ℕ) (caps marks : Sizes) (id : ℕ) (store : List ℕ) (qs : List Asked) (t : Tally)
-    → let f = setUpIn ws caps marks id in
-    let r = counted none (f .image) store qs in
-    f .number ≡ 0 → r .tally ≡ some t → KeepsDemand t (controller (bankIn (r .image)) (r .store) [])
+    (k : Kept) (caps marks : Sizes) (id : ℕ) (store : List ℕ) (qs : List Asked) (t : Tally)
+    → let f = setUpIn k caps marks id in
+    let r = counted none (f .kept) store qs in
+    f .number ≡ 0 → r .tally ≡ some t → KeepsDemand t (controller (bankIn (r .kept)) (r .store) [])

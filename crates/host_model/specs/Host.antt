@@ -1,4 +1,4 @@
--- The calls of a host: on a bank that is kept as an image, and a store, an output and a trace that are lent.
+-- The calls of a host: on what it keeps of a bank, an image and the tables, and a store, an output and a trace that are lent.
 use Prim.Native.Nat.{ℕ, _+_, _*_, _%_, _^_}
 use mathlib.Core.Bool.{Bool, cond, _&&_, _||_}
 use mathlib.Core.List.{List, []}
@@ -19,19 +19,23 @@ use Rattle.trace_model.specs.Format.{lookNumber, sectionStart, section}
 use Rattle.record_model.specs.Record.{rec, namedIn}
 use Rattle.playback_model.specs.declared.Report.{Report}
 use Rattle.playback_model.specs.Replay.{Replay, replayOf}
-use Rattle.image_model.specs.Image.{size, imageOf, bankIn, isImage}
+use Rattle.image_model.specs.Image.{Kept, keptOf, bankIn, sized, isKept}
+
+-- the version of layout and calls, one number for archive, header and bindings
+abbrev pub version : ℕ
+version = 1
 
 -- ── Set-up ────────────────────────────────────────────────────────────────────────────────────────────────────
 pub record Fresh : Type 0 where
   pub number : ℕ
-  pub image : List ℕ
+  pub kept : Kept
 
--- a set-up answered 23 leaves the image as it was, and so does 21, for an image of another length
-unfoldable pub setUpIn : List ℕ → Sizes → Sizes → ℕ → Fresh
-setUpIn ws caps marks id =
+-- a set-up answered 23 leaves what is kept as it was, and so does 21, where a piece has another length
+unfoldable pub setUpIn : Kept → Sizes → Sizes → ℕ → Fresh
+setUpIn k caps marks id =
     let r = setUp caps marks id in
     let n = r .answer .number in
-    cond (eqb (length ws) size) (record { number = n; image = cond (eqb n 0) (imageOf (r .bank)) ws }) (record { number = 21; image = ws })
+    cond (sized k) (record { number = n; kept = cond (eqb n 0) (keptOf (r .bank)) k }) (record { number = 21; kept = k })
 
 -- ── One call ──────────────────────────────────────────────────────────────────────────────────────────────────
 -- a call in numbers: those of a record of a trace, its second byte 0. The trigger has no letter there; here it has G
@@ -44,23 +48,23 @@ callOf letter offset v w = cond (triggers letter offset v w) (Named Trigger) (na
 -- an answer, and what the call left
 pub record Hosted : Type 0 where
   pub answer : Answer
-  pub image : List ℕ
+  pub kept : Kept
   pub store : List ℕ
   pub output : List ℕ
 
 abbrev pub hosted : Step Controller → Hosted
-hosted s = record { answer = s .answer; image = imageOf (s .next .bank); store = s .next .store; output = s .next .output }
+hosted s = record { answer = s .answer; kept = keptOf (s .next .bank); store = s .next .store; output = s .next .output }
 
-abbrev pub refusal : ℕ → List ℕ → List ℕ → List ℕ → Hosted
-refusal n ws st o = record { answer = record { value = 0; number = n }; image = ws; store = st; output = o }
+abbrev pub refusal : ℕ → Kept → List ℕ → List ℕ → Hosted
+refusal n k st o = record { answer = record { value = 0; number = n }; kept = k; store = st; output = o }
 
--- on the bank that the image says. 27 for numbers that name no call, as a replay has it for such a record
-abbrev pub madeIn : Parsed → List ℕ → List ℕ → List ℕ → Hosted
-madeIn (Named c) ws st o = hosted (step rings (controller (bankIn ws) st o) c)
-madeIn Skipped ws st o = refusal 27 ws st o
+-- on the bank that is said. 27 for numbers that name no call, as a replay has it for such a record
+abbrev pub madeIn : Parsed → Kept → List ℕ → List ℕ → Hosted
+madeIn (Named c) k st o = hosted (step rings (controller (bankIn k) st o) c)
+madeIn Skipped k st o = refusal 27 k st o
 
-unfoldable pub stepIn : Parsed → List ℕ → List ℕ → List ℕ → Hosted
-stepIn p ws st o = cond (isImage ws) (madeIn p ws st o) (refusal 21 ws st o)
+unfoldable pub stepIn : Parsed → Kept → List ℕ → List ℕ → Hosted
+stepIn p k st o = cond (isKept k) (madeIn p k st o) (refusal 21 k st o)
 
 -- value and number in one number
 abbrev pub packedOf : Answer → ℕ
@@ -70,18 +74,18 @@ packedOf a = a .value + 2 ^ 32 * a .number
 -- its number, and what it left; `told` is lent for what it tells
 pub record Replayed : Type 0 where
   pub number : ℕ
-  pub image : List ℕ
+  pub kept : Kept
   pub store : List ℕ
   pub told : List ℕ
 
--- on the bank that an image says. Words that are no image stand for the bank of a refused set-up: it is not well formed, so each record
+-- on the bank that is said. What is kept of no well-formed bank stands for the bank of a refused set-up: it is not well formed, so each record
 -- is answered 21, as `stepIn` answers its call
-abbrev pub bankFor : List ℕ → Bank
-bankFor ws = cond (isImage ws) (bankIn ws) (refusedSetUp .bank)
+abbrev pub bankFor : Kept → Bank
+bankFor k = cond (isKept k) (bankIn k) (refused .bank)
 
--- an image takes the bank that the records left, other words stay
-abbrev pub imageAfter : List ℕ → Bank → List ℕ
-imageAfter ws b = cond (isImage ws) (imageOf b) ws
+-- what is kept of a well-formed bank becomes that of the bank that the records left, anything else stays
+abbrev pub keptAfter : Kept → Bank → Kept
+keptAfter k b = cond (isKept k) (keptOf b) k
 
 -- whether records may have been done: 24, 25 and 26 are refusals, and no lent word changes
 abbrev pub tells : ℕ → Bool
@@ -91,11 +95,11 @@ tells n = eqb n 0 || eqb n 27
 abbrev pub toldIn : Report → List ℕ → List ℕ
 toldIn t ts = cond (tells (t .number)) (set (set (set ts 0 (t .count % 2 ^ 32)) 1 (t .answer .value)) 2 (t .answer .number)) ts
 
-abbrev pub leftBy : List ℕ → List ℕ → Replay → Replayed
-leftBy ws ts r = record { number = r .told .number; image = imageAfter ws (r .left .bank); store = r .left .store; told = toldIn (r .told) ts }
+abbrev pub leftBy : Kept → List ℕ → Replay → Replayed
+leftBy k ts r = record { number = r .told .number; kept = keptAfter k (r .left .bank); store = r .left .store; told = toldIn (r .told) ts }
 
-unfoldable pub replayIn : List ℕ → ℕ → ℕ → List ℕ → List ℕ → List ℕ → Replayed
-replayIn file i limit ws st ts = leftBy ws ts (replayOf file i limit (controller (bankFor ws) st []))
+unfoldable pub replayIn : List ℕ → ℕ → ℕ → Kept → List ℕ → List ℕ → Replayed
+replayIn file i limit k st ts = leftBy k ts (replayOf file i limit (controller (bankFor k) st []))
 
 -- ── Where a section of a trace lies ───────────────────────────────────────────────────────────────────────────
 pub record Placed : Type 0 where

@@ -1,13 +1,12 @@
-// What the calls of a host are made of, on plain numbers: an answer packed into one number, the tests of a call's
-// numbers, and what is told in lent memory.
+// What the calls of a host are made of: the lengths of what is lent, an answer packed into one number, the tests of a
+// call's numbers, and what is told in lent memory.
 ghost use mathlib.Core.Path.{_≡_};
-ghost use mathlib.Core.Bool.{cond, _&&_};
+ghost use mathlib.Core.Bool.{_&&_};
 ghost use lib.Dec.{leb};
 ghost use lib.ListN.{set};
-ghost use Rattle.bank.specs.Formed.{wellFormed};
+ghost use Rattle.image_model.specs.Image.{kept, sized};
 ghost use Rattle.host_model.specs.Host.{triggers, packedOf, toldIn, placedIn};
 use bank::Answer;
-use bank::Bank;
 use playback_model::Report;
 
 // A value in the low half, its number in the high half.
@@ -27,11 +26,12 @@ pub fn refused(number: u32) -> u64
     packed(a)
 }
 
-// Numbers that name no call, on the bank that an image says.
-pub fn no_call(b: Bank) -> u64
-    ensures { λ r. ⌜ r ≡ packedOf (record { value = 0; number = cond (wellFormed b) 27 21 }) ⌝ }
+// Whether each piece has its length. Tables that are lent as arrays have theirs by their type: their tests cost nothing.
+pub fn is_sized(image: &[u32], flags: &[u8], commands: &[u32], payloads: &[u32]) -> bool
+    ensures { λ b. ⌜ b ≡ sized (kept (now (image .entry)) (now (flags .entry)) (now (commands .entry)) (now (payloads .entry))) ⌝ }
 {
-    refused(bank::select(formed::well_formed(b), number::WRONG_RECORD, 21))
+    (image.len() == 40)
+        & ((flags.len() == 128) & ((commands.len() == 16) & (payloads.len() == 16)))
 }
 
 // Whether numbers fit a record, and whether they are the trigger's.

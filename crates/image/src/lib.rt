@@ -1,77 +1,64 @@
-// A bank as an image: 200 words of 32 bits, for a host that keeps a bank in memory of its own. Layers, no interface: the
-// calls above test the length of an image once.
+// Whether words are an image: those of the state that they say. Each field is tested by its range: no state is put
+// together and compared. A layer, no interface: the calls above test the length once.
 ghost use mathlib.Core.Path.{_≡_};
-ghost use Prim.Native.Nat.{_≤_};
-ghost use lib.ListN.{length, take};
-ghost use Rattle.image_model.specs.Image.{size, stateWords, imageOf, part, bankIn, same, encoded};
-use bank::Bank;
-use bank::Heads;
-use bank::State;
+ghost use mathlib.Core.List.{[], _∷_};
+ghost use Prim.Native.Nat.{_+_, _%_, _≤_};
+ghost use lib.Dec.{eqb};
+ghost use lib.ListN.{length, getD};
+ghost use Rattle.ring.specs.Units.{bytes};
+ghost use Rattle.bank.specs.Bits.{wordIf};
+ghost use Rattle.image_model.specs.Image.{size, phaseWords, kindIn, phaseIn, same, encoded};
 
 // How many words an image has.
-pub const SIZE: usize = 200;
+pub const SIZE: usize = 40;
 
-// A bank, written into an image.
-pub fn encode(b: Bank, image: &mut [u32])
+fn is_byte(image: &[u32], at: usize) -> bool
+    requires { ⌜ at + 1 ≤ length (now image) ⌝ }
+    ensures { λ b. ⌜ b ≡ (let w = getD (now (image .entry)) at 0 in eqb w (w % 256)) ⌝ }
+{
+    image[at] <= 255
+}
+
+fn is_bit(image: &[u32], at: usize) -> bool
+    requires { ⌜ at + 1 ≤ length (now image) ⌝ }
+    ensures { λ b. ⌜ b ≡ (let w = getD (now (image .entry)) at 0 in eqb w (wordIf (eqb w 1) 1)) ⌝ }
+{
+    image[at] <= 1
+}
+
+// The number of a phase, then kind, header, length, moved, attached and part of its transfer.
+fn is_phase(at: u32, k: u32, a: u32, l: u32, m: u32, b: u32, p: u32) -> bool
+    ensures { λ r. ⌜ r ≡ same (at ∷ k ∷ a ∷ l ∷ m ∷ b ∷ p ∷ []) (phaseWords (phaseIn at (record { kind = kindIn k; header = eqb a 1; length = bytes l; moved = bytes m; attached = eqb b 1; part = p }))) ⌝ }
+{
+    if at == 0 {
+        return (k == 0) & ((a == 0) & ((l == 0) & ((m == 0) & ((b == 0) & (p == 0)))));
+    }
+    (at <= 5) & ((k <= 2) & ((a <= 1) & (b <= 1)))
+}
+
+pub fn is_encoded(image: &[u32]) -> bool
     requires { ⌜ length (now image) ≡ size ⌝ }
-    ensures { λ _. ⌜ now (image .exit) ≡ imageOf b ⌝ }
-{
-    let flags = b.flags;
-    let commands = b.commands;
-    let payloads = b.payloads;
-    image_words::put_state(image, b.state, b.heads);
-    image_words::put_flags(image, flags);
-    image_words::put_words(image, 168, commands);
-    image_words::put_words(image, 184, payloads);
-}
-
-// The bank that an image says.
-pub fn decode(image: &[u32]) -> Bank
-    requires { ⌜ length (now image) ≡ size ⌝ }
-    ensures { λ b. ⌜ b ≡ bankIn (now (image .entry)) ⌝ }
-{
-    let s = image_fields::state_in(image);
-    let h = image_fields::heads_in(image);
-    let flags = image_fields::flags_in(image);
-    let commands = image_fields::words_in(image, 168);
-    let payloads = image_fields::words_in(image, 184);
-    Bank {
-        state: s,
-        heads: h,
-        flags: flags,
-        commands: commands,
-        payloads: payloads,
-    }
-}
-
-fn same_state(image: &[u32], s: State, h: Heads) -> bool
-    requires { ⌜ 40 ≤ length (now image) ⌝ }
-    ensures { λ r. ⌜ r ≡ same (stateWords s h) (take 40 (now (image .entry))) ⌝ }
-{
-    let ws = image_words::state_words(s, h);
-    let mut ok = true;
-    for i in 0..40 {
-        ok = ok & (ws[i] == image[i]);
-    }
-    ok
-}
-
-fn same_flags(image: &[u32], flags: [u8; 128]) -> bool
-    requires { ⌜ 168 ≤ length (now image) ⌝ }
-    ensures { λ r. ⌜ r ≡ same flags (part 40 128 (now (image .entry))) ⌝ }
-{
-    let mut ok = true;
-    for i in 0..128 {
-        ok = ok & (image_words::wide(flags[i]) == image[40 + i]);
-    }
-    ok
-}
-
-// Whether an image has the words of the bank that it says. The offload words are those of the image.
-pub fn is_encoded(image: &[u32], b: Bank) -> bool
-    requires { ⌜ (length (now image) ≡ size) × (b ≡ bankIn (now image)) ⌝ }
     ensures { λ r. ⌜ r ≡ encoded (now (image .entry)) ⌝ }
 {
-    let flags = b.flags;
-    same_state(image, b.state, b.heads) & same_flags(image, flags)
+    is_byte(image, 20)
+        & (is_byte(image, 22)
+            & (is_byte(image, 23)
+                & (is_byte(image, 24)
+                    & (is_byte(image, 25)
+                        & (is_bit(image, 26)
+                            & (is_byte(image, 27)
+                                & (is_byte(image, 28)
+                                    & (is_bit(image, 29)
+                                        & (is_bit(image, 30)
+                                            & (is_bit(image, 31)
+                                                & (is_byte(image, 32)
+                                                    & is_phase(
+                                                        image[33],
+                                                        image[34],
+                                                        image[35],
+                                                        image[36],
+                                                        image[37],
+                                                        image[38],
+                                                        image[39],
+                                                    ))))))))))))
 }

@@ -1,8 +1,8 @@
-// The parts of a bank out of the words of an image. Layers, no interface.
+// A state and its heads out of the words of an image. Layers, no interface.
 ghost use mathlib.Core.Path.{_≡_};
 ghost use Prim.Native.Nat.{_+_, _≤_};
 ghost use lib.ListN.{length};
-ghost use Rattle.image_model.specs.Image.{size, countsIn, headsIn, byteIn, bitIn, kindIn, transferIn, phaseIn, regsIn, controlIn, stateIn, part, lowBytes};
+ghost use Rattle.image_model.specs.Image.{size, countsIn, headsIn, byteIn, bitIn, kindIn, transferIn, phaseIn, regsIn, controlIn, stateIn};
 use bank::Control;
 use bank::Counts;
 use bank::Heads;
@@ -140,26 +140,4 @@ pub fn state_in(image: &[u32]) -> State
         control: c,
         phase: p,
     }
-}
-
-pub fn flags_in(image: &[u32]) -> [u8; 128]
-    requires { ⌜ length (now image) ≡ size ⌝ }
-    ensures { λ fs. ⌜ fs ≡ lowBytes (part 40 128 (now (image .entry))) ⌝ }
-{
-    let mut flags = [0u8; 128];
-    for i in 0..128 {
-        flags[i] = byte_in(image, 40 + i);
-    }
-    flags
-}
-
-pub fn words_in(image: &[u32], at: usize) -> [u32; 16]
-    requires { ⌜ at + 16 ≤ length (now image) ⌝ }
-    ensures { λ ws. ⌜ ws ≡ part at 16 (now (image .entry)) ⌝ }
-{
-    let mut ws = [0u32; 16];
-    for i in 0..16 {
-        ws[i] = image[at + i];
-    }
-    ws
 }

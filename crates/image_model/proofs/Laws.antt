@@ -1,23 +1,22 @@
--- The laws of an image: a bank comes back out of its words, and an image is the words of a well-formed bank.
-use Prim.Native.Nat.{ℕ, _+_, _%_, _<_, _≤_}
+-- The laws of what a host keeps: a bank comes back out of it, and what is taken is what is kept of a well-formed bank.
+use Prim.Native.Nat.{ℕ, _%_, _<_, _≤_}
 use native.Mathlib.Omega.{arith}
 use native.Mathlib.Nat.{mod-lt}
-use mathlib.Core.Path.{_≡_, ap, _∙_}
-use mathlib.Core.Bool.{true, _&&_}
-use mathlib.Core.List.{List, _++_}
+use mathlib.Core.Path.{_≡_, refl, ap, sym, _∙_}
+use mathlib.Core.Bool.{Bool, true, _&&_}
+use mathlib.Core.List.{List}
 use lib.Dec.{eqb, leb, ltb}
-use lib.ListN.{length, getD, length-append}
-use borrow.Author.Tests.{leb-true, ltb-true, eqb-true, eq-eqb, le-leb}
+use lib.ListN.{length, getD}
+use borrow.Author.Tests.{leb-true, ltb-true, le-leb}
 use Rattle.bank.specs.declared.Regs.{Regs}
 use Rattle.bank.specs.declared.Bank.{Bank}
 use Rattle.bank.specs.Formed.{regsOk, wellFormed}
 use Rattle.bank.proofs.Bools.{and-true, true-and, three, five}
 use Rattle.bank.proofs.Laws.{formed-of}
-use Rattle.image_model.specs.Image.{size, stateWords, imageOf, bankIn, same, encoded, isImage}
-use Rattle.image_model.specs.Laws.{inTypes, EncodedIsRead, ImageIsEncoded}
+use Rattle.image_model.specs.Image.{imageOf, encoded, same, Kept, keptOf, bankIn, sized, isKept}
+use Rattle.image_model.specs.Laws.{inTypes, KeptIsRead, TakenIsKept}
 use Rattle.image_model.proofs.Words.{same-refl, same-eq}
-use Rattle.image_model.proofs.Parts.{part-length, low-length}
-use Rattle.image_model.proofs.Back.{Bytes, Sized, bank-back}
+use Rattle.image_model.proofs.Back.{Bytes, bank-back}
 
 -- ── What the tests tell ───────────────────────────────────────────────────────────────────────────────────────
 pub record Typed (b : Bank) : Type 0 where
@@ -66,60 +65,58 @@ bytes-of b t r =
       burst = leb-true _ 255 (t .burst);
     }
 
-sized-of : (b : Bank) → Typed b → Sized b
-sized-of b t = record { flags = eqb-true _ 128 (t .flags); commands = eqb-true _ 16 (t .commands); payloads = eqb-true _ 16 (t .payloads) }
-
 -- ── The laws ──────────────────────────────────────────────────────────────────────────────────────────────────
-pub image-size : (b : Bank) → Sized b → length (imageOf b) ≡ size
-unfolding imageOf
-image-size b z =
-    let f = z .flags in
-    let c = z .commands in
-    let p = z .payloads in
-    let n : length (b .flags ++ (b .commands ++ b .payloads)) ≡ 160 = simp length-append (omega arith) in
-    length-append (stateWords (b .state) (b .heads)) (b .flags ++ (b .commands ++ b .payloads)) ∙ ap (λ (k : ℕ). 40 + k) n
+-- words that a state has are those of the state that they say
+pub words-back : (ws : List ℕ) → encoded ws ≡ true → (k : Kept) → k .image ≡ ws → keptOf (bankIn k) ≡ k
+unfolding encoded keptOf bankIn
+words-back ws e k f =
+    let g : encoded (k .image) ≡ true = ap encoded f ∙ e in
+    let h = same-eq (k .image) (imageOf (bankIn k .state) (bankIn k .heads)) g in
+    λ i. record { image = sym h i; flags = k .flags; commands = k .commands; payloads = k .payloads }
 
--- an image that says b says a bank with its words
-image-of : (b : Bank) → length (imageOf b) ≡ size → bankIn (imageOf b) ≡ b → wellFormed b ≡ true → isImage (imageOf b) ≡ true
-image-of b n e w =
-    let ws = imageOf b in
-    let s : encoded ws ≡ true = ap (λ (x : Bank). same (imageOf x) ws) e ∙ same-refl ws in
-    true-and (eqb (length ws) size) (encoded ws && wellFormed (bankIn ws)) (eq-eqb (length ws) size n) (true-and (encoded ws) (wellFormed (bankIn ws)) s (ap wellFormed e ∙ w))
+-- what is kept of a bank that comes back out of it
+taken : (b : Bank) → Typed b → bankIn (keptOf b) ≡ b → wellFormed b ≡ true → isKept (keptOf b) ≡ true
+unfolding isKept keptOf encoded bankIn
+taken b t e w =
+    let ws = imageOf (b .state) (b .heads) in
+    let s : encoded ws ≡ true = ap (λ (x : Bank). same ws (imageOf (x .state) (x .heads))) e ∙ same-refl ws in
+    true-and (sized (keptOf b)) (encoded ws && wellFormed (bankIn (keptOf b))) (rw (t .flags, t .commands, t .payloads))
+    (true-and (encoded ws) (wellFormed (bankIn (keptOf b))) s (ap wellFormed e ∙ w))
 
-pub encoded-is-read : EncodedIsRead
-unfolding EncodedIsRead
-encoded-is-read b h w =
+pub kept-is-read : KeptIsRead
+unfolding KeptIsRead
+kept-is-read b h w =
     let t = typed-of b h in
-    let f = formed-of b w in
-    let z = sized-of b t in
-    let e = bank-back b z (bytes-of b t (f .regs)) (f .flags) in
-    (image-of b (image-size b z) e w, e)
+    let e = bank-back b (bytes-of b t (formed-of b w .regs)) in
+    (taken b t e w, e)
 
--- the bank that 200 words say is in its types
 low : (n : ℕ) → leb (n % 256) 255 ≡ true
 low n =
     let h : n % 256 < 256 = mod-lt n (omega arith) in
     le-leb (n % 256) 255 (omega (arith, h))
 
-typed-in : (ws : List ℕ) → length ws ≡ size → inTypes (bankIn ws) ≡ true
+typed-in : (k : Kept) → sized k ≡ true → inTypes (bankIn k) ≡ true
 unfolding bankIn
-typed-in ws n =
-    typed-is (bankIn ws)
+typed-in k z =
+    let ws = k .image in
+    let y = and-true (eqb (length ws) 40) (eqb (length (k .flags)) 128 && (eqb (length (k .commands)) 16 && eqb (length (k .payloads)) 16)) z in
+    let x = and-true (eqb (length (k .flags)) 128) (eqb (length (k .commands)) 16 && eqb (length (k .payloads)) 16) (y .1) in
+    let v = and-true (eqb (length (k .commands)) 16) (eqb (length (k .payloads)) 16) (x .1) in
+    typed-is (bankIn k)
     (record {
       id = low (getD ws 20 0);
       mask = low (getD ws 22 0);
       sync = low (getD ws 27 0);
       ibisync = low (getD ws 28 0);
       burst = low (getD ws 32 0);
-      flags = eq-eqb _ 128 (low-length ws 40 128 (omega (arith, n)));
-      commands = eq-eqb _ 16 (part-length ws 168 16 (omega (arith, n)));
-      payloads = eq-eqb _ 16 (part-length ws 184 16 (omega (arith, n)));
+      flags = x .0;
+      commands = v .0;
+      payloads = v .1;
     })
 
-pub image-is-encoded : ImageIsEncoded
-unfolding ImageIsEncoded
-image-is-encoded ws h =
-    let z = and-true (eqb (length ws) size) (encoded ws && wellFormed (bankIn ws)) h in
-    let y = and-true (encoded ws) (wellFormed (bankIn ws)) (z .1) in
-    let n = eqb-true (length ws) size (z .0) in
-    (n, same-eq (imageOf (bankIn ws)) ws (y .0), typed-in ws n, y .1)
+pub taken-is-kept : TakenIsKept
+unfolding TakenIsKept isKept
+taken-is-kept k h =
+    let z = and-true (sized k) (encoded (k .image) && wellFormed (bankIn k)) h in
+    let y = and-true (encoded (k .image)) (wellFormed (bankIn k)) (z .1) in
+    (z .0, words-back (k .image) (y .0) k refl, typed-in k (z .0), y .1)

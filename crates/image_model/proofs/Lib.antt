@@ -1,6 +1,5 @@
 pub mod Fill
 pub mod Numbers
-pub mod Parts
 pub mod Words
 pub mod Encoded
 pub mod Back

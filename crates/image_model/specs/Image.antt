@@ -1,9 +1,10 @@
--- A bank as an image, a list of words: the words that a bank has, the bank that some words say, and which words are an image.
+-- What a host keeps of a bank: an image, a list of words, of all but its tables, and the tables as they lie. Here are the words that a bank
+-- has, the bank that is said, and what is kept of a well-formed one. Each word's place is named once, under 'Places'.
 use Prim.Native.Nat.{ℕ, _+_, _%_}
 use mathlib.Core.Bool.{Bool, true, false, cond, _&&_}
-use mathlib.Core.List.{List, [], _∷_, _++_, map}
+use mathlib.Core.List.{List, [], _∷_, _++_}
 use lib.Dec.{eqb}
-use lib.ListN.{length, getD, take, drop}
+use lib.ListN.{length, getD}
 use Rattle.ring.specs.declared.Words.{Words}
 use Rattle.ring.specs.Units.{bytes, words}
 use Rattle.bank.specs.declared.Counts.{Counts}
@@ -21,10 +22,88 @@ use Rattle.bank.specs.Bits.{wordIf}
 use Rattle.bank.specs.Phases.{stage, transfer}
 use Rattle.bank.specs.Formed.{wellFormed}
 
--- ── The words of a bank ───────────────────────────────────────────────────────────────────────────────────────
-abbrev pub size : ℕ
-size = 200
+-- ── Places ────────────────────────────────────────────────────────────────────────────────────────────────────
+-- of the queues' words: four a queue, in the order CMD, CMDR, SDO, SDI, IBI
+abbrev pub atCaps : ℕ
+atCaps = 0
 
+abbrev pub atMarks : ℕ
+atMarks = 1
+
+abbrev pub atHeads : ℕ
+atHeads = 2
+
+abbrev pub atLevels : ℕ
+atLevels = 3
+
+-- of the registers that are kept
+abbrev pub atId : ℕ
+atId = 20
+
+abbrev pub atScratch : ℕ
+atScratch = 21
+
+abbrev pub atMask : ℕ
+atMask = 22
+
+abbrev pub atOps : ℕ
+atOps = 23
+
+abbrev pub atConfig : ℕ
+atConfig = 24
+
+abbrev pub atSelected : ℕ
+atSelected = 25
+
+-- of the control
+abbrev pub atHeld : ℕ
+atHeld = 26
+
+abbrev pub atSync : ℕ
+atSync = 27
+
+abbrev pub atIbisync : ℕ
+atIbisync = 28
+
+abbrev pub atCmdrpending : ℕ
+atCmdrpending = 29
+
+abbrev pub atIbipending : ℕ
+atIbipending = 30
+
+abbrev pub atDaapending : ℕ
+atDaapending = 31
+
+abbrev pub atBurst : ℕ
+atBurst = 32
+
+-- of the phase and its transfer
+abbrev pub atStage : ℕ
+atStage = 33
+
+abbrev pub atKind : ℕ
+atKind = 34
+
+abbrev pub atHeader : ℕ
+atHeader = 35
+
+abbrev pub atLength : ℕ
+atLength = 36
+
+abbrev pub atMoved : ℕ
+atMoved = 37
+
+abbrev pub atAttached : ℕ
+atAttached = 38
+
+abbrev pub atPart : ℕ
+atPart = 39
+
+-- how many words an image has
+abbrev pub size : ℕ
+size = 40
+
+-- ── The words of a bank ───────────────────────────────────────────────────────────────────────────────────────
 -- of a queue: capacity, watermark, head, level
 abbrev pub queueWords : Words → Words → ℕ → Words → List ℕ
 queueWords k m h l = k .0 ∷ m .0 ∷ h ∷ l .0 ∷ []
@@ -50,8 +129,8 @@ transferWords t =
 abbrev pub phaseWords : Phase → List ℕ
 phaseWords p = stage p ∷ transferWords (transfer p)
 
-abbrev pub stateWords : State → Heads → List ℕ
-stateWords s h =
+abbrev pub imageOf : State → Heads → List ℕ
+imageOf s h =
     let k = s .caps in
     let m = s .regs .marks in
     let l = s .levels in
@@ -59,16 +138,13 @@ stateWords s h =
     ++ (queueWords (k .sdi) (m .sdi) (h .sdi) (l .sdi) ++ (queueWords (k .ibi) (m .ibi) (h .ibi) (l .ibi)
     ++ (regWords (s .regs) ++ (controlWords (s .control) ++ phaseWords (s .phase)))))))
 
-unfoldable pub imageOf : Bank → List ℕ
-imageOf b = stateWords (b .state) (b .heads) ++ (b .flags ++ (b .commands ++ b .payloads))
-
 -- ── The bank that some words say ──────────────────────────────────────────────────────────────────────────────
 -- one number of each queue: four words a queue
 abbrev pub countsIn : List ℕ → ℕ → Counts
 countsIn ws at = record { cmd = words (getD ws at 0); cmdr = words (getD ws (at + 4) 0); sdo = words (getD ws (at + 8) 0); sdi = words (getD ws (at + 12) 0); ibi = words (getD ws (at + 16) 0) }
 
 abbrev pub headsIn : List ℕ → Heads
-headsIn ws = record { cmd = getD ws 2 0; cmdr = getD ws 6 0; sdo = getD ws 10 0; sdi = getD ws 14 0; ibi = getD ws 18 0 }
+headsIn ws = record { cmd = getD ws atHeads 0; cmdr = getD ws (atHeads + 4) 0; sdo = getD ws (atHeads + 8) 0; sdi = getD ws (atHeads + 12) 0; ibi = getD ws (atHeads + 16) 0 }
 
 -- a field of a byte, and one of a bit
 abbrev pub byteIn : List ℕ → ℕ → ℕ
@@ -82,7 +158,7 @@ kindIn n = cond (eqb n 0) Private (cond (eqb n 1) Direct Broadcast)
 
 abbrev pub transferIn : List ℕ → Transfer
 transferIn ws =
-    record { kind = kindIn (getD ws 34 0); header = bitIn ws 35; length = bytes (getD ws 36 0); moved = bytes (getD ws 37 0); attached = bitIn ws 38; part = getD ws 39 0 }
+    record { kind = kindIn (getD ws atKind 0); header = bitIn ws atHeader; length = bytes (getD ws atLength 0); moved = bytes (getD ws atMoved 0); attached = bitIn ws atAttached; part = getD ws atPart 0 }
 
 abbrev pub phaseIn : ℕ → Transfer → Phase
 phaseIn n t =
@@ -94,35 +170,48 @@ phaseIn n t =
     (Answered t)))))
 
 abbrev pub regsIn : List ℕ → Regs
-regsIn ws = record { id = byteIn ws 20; scratch = getD ws 21 0; mask = byteIn ws 22; ops = byteIn ws 23; config = byteIn ws 24; selected = byteIn ws 25; marks = countsIn ws 1 }
+regsIn ws = record { id = byteIn ws atId; scratch = getD ws atScratch 0; mask = byteIn ws atMask; ops = byteIn ws atOps; config = byteIn ws atConfig; selected = byteIn ws atSelected; marks = countsIn ws atMarks }
 
 abbrev pub controlIn : List ℕ → Control
 controlIn ws =
-    record { held = bitIn ws 26; sync = byteIn ws 27; ibisync = byteIn ws 28; cmdrpending = bitIn ws 29; ibipending = bitIn ws 30; daapending = bitIn ws 31; burst = byteIn ws 32 }
+    record { held = bitIn ws atHeld; sync = byteIn ws atSync; ibisync = byteIn ws atIbisync; cmdrpending = bitIn ws atCmdrpending; ibipending = bitIn ws atIbipending; daapending = bitIn ws atDaapending; burst = byteIn ws atBurst }
 
 abbrev pub stateIn : List ℕ → State
-stateIn ws = record { caps = countsIn ws 0; levels = countsIn ws 3; regs = regsIn ws; control = controlIn ws; phase = phaseIn (getD ws 33 0) (transferIn ws) }
+stateIn ws = record { caps = countsIn ws atCaps; levels = countsIn ws atLevels; regs = regsIn ws; control = controlIn ws; phase = phaseIn (getD ws atStage 0) (transferIn ws) }
 
-abbrev pub part : ℕ → ℕ → List ℕ → List ℕ
-part at n ws = take n (drop at ws)
-
-abbrev pub lowBytes : List ℕ → List ℕ
-lowBytes = map (λ w. w % 256)
-
-unfoldable pub bankIn : List ℕ → Bank
-bankIn ws = record { state = stateIn ws; heads = headsIn ws; flags = lowBytes (part 40 128 ws); commands = part 168 16 ws; payloads = part 184 16 ws }
-
--- ── Which words are an image ──────────────────────────────────────────────────────────────────────────────────
+-- ── Which words are a bank's ──────────────────────────────────────────────────────────────────────────────────
 abbrev pub same : List ℕ → List ℕ → Bool
 same [] [] = true
 same [] (y ∷ ys) = false
 same (x ∷ xs) [] = false
 same (x ∷ xs) (y ∷ ys) = eqb x y && same xs ys
 
--- words that a bank has: those of the bank that they say
-abbrev pub encoded : List ℕ → Bool
-encoded ws = same (imageOf (bankIn ws)) ws
+-- words that a state has: those of the state that they say
+unfoldable pub encoded : List ℕ → Bool
+encoded ws = same ws (imageOf (stateIn ws) (headsIn ws))
 
--- an image has so many words, and they are those of a well-formed bank; others are answered 21
-abbrev pub isImage : List ℕ → Bool
-isImage ws = eqb (length ws) size && (encoded ws && wellFormed (bankIn ws))
+-- ── What a host keeps ─────────────────────────────────────────────────────────────────────────────────────────
+pub record Kept : Type 0 where
+  pub image : List ℕ
+  pub flags : List ℕ
+  pub commands : List ℕ
+  pub payloads : List ℕ
+
+abbrev pub kept : List ℕ → List ℕ → List ℕ → List ℕ → Kept
+kept ws fs cs ps = record { image = ws; flags = fs; commands = cs; payloads = ps }
+
+-- of a bank
+unfoldable pub keptOf : Bank → Kept
+keptOf b = kept (imageOf (b .state) (b .heads)) (b .flags) (b .commands) (b .payloads)
+
+-- the bank that is said
+unfoldable pub bankIn : Kept → Bank
+bankIn k = record { state = stateIn (k .image); heads = headsIn (k .image); flags = k .flags; commands = k .commands; payloads = k .payloads }
+
+-- an image of its length, 128 flag bytes, 16 words and 16 words
+abbrev pub sized : Kept → Bool
+sized k = eqb (length (k .image)) size && (eqb (length (k .flags)) 128 && (eqb (length (k .commands)) 16 && eqb (length (k .payloads)) 16))
+
+-- what is kept of a well-formed bank; anything else is answered 21
+unfoldable pub isKept : Kept → Bool
+isKept k = sized k && (encoded (k .image) && wellFormed (bankIn k))

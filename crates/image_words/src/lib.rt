@@ -1,9 +1,7 @@
-// The parts of a bank as words, written into an image. Layers, no interface.
+// A state and its heads as the words of an image. A layer, no interface.
 ghost use mathlib.Core.Path.{_≡_};
-ghost use Prim.Native.Nat.{_+_, _≤_};
-ghost use mathlib.Core.List.{_++_};
-ghost use lib.ListN.{length, take};
-ghost use Rattle.image_model.specs.Image.{kindNumber, stateWords};
+ghost use lib.ListN.{length};
+ghost use Rattle.image_model.specs.Image.{size, kindNumber, imageOf};
 use bank::Heads;
 use bank::Kind;
 use bank::State;
@@ -18,9 +16,9 @@ fn kind_number(k: Kind) -> u32
     }
 }
 
-// All of a bank but its arrays, in words.
-pub fn state_words(s: State, h: Heads) -> [u32; 40]
-    ensures { λ ws. ⌜ ws ≡ stateWords s h ⌝ }
+// In the order of the definition's places.
+fn state_words(s: State, h: Heads) -> [u32; 40]
+    ensures { λ ws. ⌜ ws ≡ imageOf s h ⌝ }
 {
     let n = s.caps;
     let l = s.levels;
@@ -74,37 +72,13 @@ pub fn state_words(s: State, h: Heads) -> [u32; 40]
     ]
 }
 
-pub fn wide(x: u8) -> u32
-    ensures { λ r. ⌜ r ≡ x ⌝ }
-{
-    x as u32
-}
-
-// The parts of an image, each behind what was written before it.
-pub fn put_state(image: &mut [u32], s: State, h: Heads)
-    requires { ⌜ 40 ≤ length (now image) ⌝ }
-    ensures { λ _. ⌜ take 40 (now (image .exit)) ≡ stateWords s h ⌝ }
+// Written into an image, which has its length.
+pub fn encode(s: State, h: Heads, image: &mut [u32])
+    requires { ⌜ length (now image) ≡ size ⌝ }
+    ensures { λ _. ⌜ now (image .exit) ≡ imageOf s h ⌝ }
 {
     let ws = state_words(s, h);
     for i in 0..40 {
         image[i] = ws[i];
-    }
-}
-
-pub fn put_flags(image: &mut [u32], flags: [u8; 128])
-    requires { ⌜ 168 ≤ length (now image) ⌝ }
-    ensures { λ _. ⌜ take 168 (now (image .exit)) ≡ take 40 (now (image .entry)) ++ flags ⌝ }
-{
-    for i in 0..128 {
-        image[40 + i] = wide(flags[i]);
-    }
-}
-
-pub fn put_words(image: &mut [u32], at: usize, ws: [u32; 16])
-    requires { ⌜ at + 16 ≤ length (now image) ⌝ }
-    ensures { λ _. ⌜ take (at + 16) (now (image .exit)) ≡ take at (now (image .entry)) ++ ws ⌝ }
-{
-    for i in 0..16 {
-        image[at + i] = ws[i];
     }
 }

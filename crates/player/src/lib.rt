@@ -18,7 +18,7 @@ use replayed::Reached;
 use replayed::Replayed;
 
 // The first `n` records, on a state and its lent tables: a layer, no interface.
-fn replay_parts(
+pub fn replay_parts(
     st: State,
     heads: Heads,
     flags: &mut [u8; 128],

@@ -20,8 +20,8 @@ fn when(right: bool, c: Call) -> Parsed
     Parsed::Skipped
 }
 
-// The call of a record, by its fields; a remainder cuts no field of a right record.
-fn named(letter: u8, zero: u8, offset: u32, v: u32, w: u32) -> Parsed
+// The call of a record, by its fields. No right record has a field that a remainder cuts.
+pub fn named(letter: u8, zero: u8, offset: u32, v: u32, w: u32) -> Parsed
     requires { ⌜ offset < 65536 ⌝ }
     ensures { λ p. ⌜ p ≡ namedIn (formOf letter) (rec letter zero offset v w) ⌝ }
 {

@@ -1,7 +1,20 @@
-//! Good images to be damaged.
+//! What is kept of good banks, to be damaged.
 
 use crate::memory::FILL;
-use thymewax::{registers, Call, Model, Queue, SetUp, IMAGE_WORDS};
+use thymewax::{registers, Call, Kept, Model, Queue, SetUp};
+
+/// Words of image and tables together: a flag has one of its own here.
+pub const WORDS: usize = 200;
+
+/// Image, flags, commands and payloads in one row.
+pub fn row(kept: &Kept) -> Vec<u32> {
+    let mut words = kept.image.to_vec();
+    words.extend(kept.tables.flags.map(u32::from));
+    words.extend(kept.tables.commands);
+    words.extend(kept.tables.payloads);
+    assert_eq!(words.len(), WORDS);
+    words
+}
 
 /// A model after these calls, all of which must be done.
 pub fn after(calls: &[Call]) -> Model {
@@ -32,7 +45,7 @@ pub fn write(offset: u16, value: u32) -> Call {
 
 /// Good images of many kinds: each phase, each kind of transfer, attached or not, queues whose heads
 /// have moved, bursts at a write and at a read.
-pub fn good_images() -> Vec<[u32; IMAGE_WORDS]> {
+pub fn good_images() -> Vec<Vec<u32>> {
     use registers::*;
     let (send, receive) = (Call::Send, Call::Receive { byte: 0x5a });
     let (start, finish) = (Call::Start, Call::Finish { code: 0 });
@@ -127,9 +140,11 @@ pub fn good_images() -> Vec<[u32; IMAGE_WORDS]> {
     ];
     let mut images: Vec<_> = moves
         .iter()
-        .map(|calls| *after(&[&[release, attach], &calls[..]].concat()).image())
+        .map(|calls| row(after(&[&[release, attach], &calls[..]].concat()).kept()))
         .collect();
-    images.push(*after(&[]).image());
-    images.push(*after(&[attach, write(IRQ_MASK, 0xff), write(OPS, 0x7f)]).image());
+    images.push(row(after(&[]).kept()));
+    images.push(row(
+        after(&[attach, write(IRQ_MASK, 0xff), write(OPS, 0x7f)]).kept(),
+    ));
     images
 }

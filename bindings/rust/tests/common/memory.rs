@@ -1,6 +1,7 @@
-//! Image, store and output as the archive takes them, of any length, and one call of each kind.
+//! Image, tables, store and output as the archive takes them, those that have one of any length, and
+//! one call of each kind.
 
-use crate::raw;
+use crate::raw::{self, Tables};
 
 /// What the memory around a call holds, so that a stray write is seen.
 pub const FILL: u32 = 0xdead_beef;
@@ -27,28 +28,61 @@ pub fn number_of(answer: u64) -> u32 {
     (answer >> 32) as u32
 }
 
-/// Image, store and output of one call, to be compared as one.
+/// The memory of one call, to be compared as one.
 #[derive(Clone, PartialEq)]
 pub struct Memory {
     pub image: Vec<u32>,
+    pub tables: Tables,
     pub store: Vec<u32>,
     pub output: Vec<u32>,
 }
 
 impl Memory {
-    /// A store that fits the capacities as far as they are in range, and an output for any burst.
-    pub fn around(image: Vec<u32>) -> Memory {
-        let capacities = image[..20].iter().step_by(4);
+    /// Of a row of image, flags, commands and payloads; a flag is cut to its byte. A store that fits
+    /// the capacities as far as they are in range, and an output for any burst.
+    pub fn around(row: Vec<u32>) -> Memory {
+        let capacities = row[..20].iter().step_by(4);
         let words: u32 = capacities.map(|capacity| *capacity.min(&1024)).sum();
+        let (image, rest) = row.split_at(raw::image_words());
+        let mut tables = Tables::CLEAR;
+        for (flag, word) in tables.flags.iter_mut().zip(rest) {
+            *flag = *word as u8;
+        }
+        tables.commands.copy_from_slice(&rest[128..144]);
+        tables.payloads.copy_from_slice(&rest[144..160]);
         Memory {
-            image,
+            image: image.to_vec(),
+            tables,
             store: vec![FILL; words as usize],
             output: vec![FILL; 16],
         }
     }
 
+    /// Image, flags, commands and payloads in one row.
+    #[allow(dead_code)]
+    pub fn row(&self) -> Vec<u32> {
+        let mut row = self.image.clone();
+        row.extend(self.tables.flags.map(u32::from));
+        row.extend(self.tables.commands);
+        row.extend(self.tables.payloads);
+        row
+    }
+
     pub fn step(&mut self, numbers: Numbers) -> u64 {
-        raw::step(&mut self.image, &mut self.store, &mut self.output, numbers)
+        raw::step(
+            &mut self.image,
+            &mut self.tables,
+            &mut self.store,
+            &mut self.output,
+            numbers,
+        )
+    }
+
+    /// At most nine records of a section.
+    #[allow(dead_code)]
+    pub fn replay(&mut self, file: &[u8], section: u32, told: &mut [u32]) -> u32 {
+        let (image, tables) = (&mut self.image, &mut self.tables);
+        raw::replay(image, tables, &mut self.store, file, section, 9, told)
     }
 
     /// The call must be refused with this number, and leave no mark.
@@ -77,8 +111,9 @@ impl Memory {
         ] {
             let mut after = self.clone();
             let mut told = [FILL; 3];
-            let (image, store) = (&mut after.image, &mut after.store);
-            let made = raw::replay(image, store, file, section, limit, &mut told);
+            let (image, tables) = (&mut after.image, &mut after.tables);
+            let store = &mut after.store;
+            let made = raw::replay(image, tables, store, file, section, limit, &mut told);
             assert_eq!((made, told), (number, expected));
             assert!(after == *self, "a replay left a mark");
         }

@@ -109,14 +109,14 @@ impl Pair {
 
     /// All registers whose read changes nothing.
     pub fn compare(&mut self) {
-        let before = *self.model.image();
+        let before = self.model.kept().clone();
         let offload = registers::OFFLOAD_CMD
             .into_iter()
             .chain(registers::OFFLOAD_SDO);
         for offset in QUIET.into_iter().chain(offload) {
             self.shown(offset);
         }
-        assert!(*self.model.image() == before, "a quiet read left a mark");
+        assert!(*self.model.kept() == before, "a quiet read left a mark");
     }
 
     /// The words that wait for the driver, queue by queue.

@@ -36,16 +36,16 @@ unfolding flagsOk
 end a i most h = ap (λ (l : List ℕ). ltb most 8 && flagsOk l) (drop-of-length-le a h) ∙ and-true (ltb most 8)
 
 abbrev Inv-loop : tie.InvT-loop
-Inv-loop flags most₀ i₀ most i = (i ≤ 128) × (length flags ≡ 128) × (flagsOk flags ≡ (ltb most 8 && flagsOk (drop i flags)))
+Inv-loop flags most₀ i₀ i-end most i = (i ≤ i-end) × (i-end ≡ length flags) × (flagsOk flags ≡ (ltb most 8 && flagsOk (drop i flags)))
 
 abbrev μ-loop : tie.MeasureT-loop
-μ-loop flags most₀ i₀ most i = 128 - i
+μ-loop flags most₀ i₀ i-end most i = i-end - i
 
 loop-holds : tie.Need-loop-holds Inv-loop μ-loop
 loop-holds c = (search needs, search needs, refl)
 
-array-read-x : tie.Need-array-read-x Inv-loop μ-loop
-array-read-x c = search needs
+shared-slice-read-x : tie.Need-shared-slice-read-x Inv-loop μ-loop
+shared-slice-read-x c = search needs
 
 add-i : tie.Need-add-i Inv-loop μ-loop
 add-i c = search needs
@@ -54,8 +54,8 @@ loop-less : tie.Need-loop-less Inv-loop μ-loop
 loop-less c = search needs
 
 loop-again : tie.Need-loop-again Inv-loop μ-loop
-loop-again c = let l = c .before .before .loop in
-    let a = c .before .before .before .args .t1 in
+loop-again c = let l = c .before .before .before .loop in
+    let a = c .before .before .before .before .args .flags .now in
     let x = getD a (l .i) 0 in
     let s = next a (l .i) (l .most) (c .if1 .most) (omega arith) in
     ⊎-elim (λ w. (search needs, search needs, l .inv .2 ∙ s (larger (l .most) x (omega arith) ∙ ap (λ (n : ℕ). ltb n 8) (sym (w .1)))))
@@ -63,8 +63,8 @@ loop-again c = let l = c .before .before .loop in
     (c .if1 .came)
 
 returns : tie.Need-returns Inv-loop μ-loop
-returns c = sym (c .before .loop .inv .2 ∙ end (c .before .before .args .t1) (c .before .loop .i) (c .before .loop .most) (omega arith))
+returns c = sym (c .before .loop .inv .2 ∙ end (c .before .before .args .flags .now) (c .before .loop .i) (c .before .loop .most) (omega arith))
 
 pub flags-ok-spec : {M : Type 1} → statement M
 flags-ok-spec =
-    tie.close (tie.spec Inv-loop μ-loop loop-holds array-read-x add-i loop-less loop-again returns)
+    tie.close (tie.spec Inv-loop μ-loop loop-holds shared-slice-read-x add-i loop-less loop-again returns)

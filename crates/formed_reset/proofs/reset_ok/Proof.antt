@@ -1,8 +1,24 @@
 -- `formed_reset::reset_ok` meets its contract.
-use Rattle.bank.specs.Formed.{resetOk}
+use mathlib.Core.Path.{_≡_}
+use mathlib.Core.Bool.{Bool, true, false, not, _&&_, _||_}
 use borrow.Author.Needs.{needs}
+use borrow.Author.Tests.{not-true, not-false}
+use Rattle.bank.specs.Formed.{queuesClear, controlClear, resetOk}
+use Rattle.bank.specs.Phases.{idle}
+use Rattle.bank.specs.Queues.{queuesOf}
 use Rattle.formed_reset.proofs.reset_ok.Statement.{statement}
 use Rattle.formed_reset.proofs.reset_ok.Tie as tie
+
+-- out of reset nothing is asked; in reset all of it is
+released : (h x : Bool) → h ≡ false → true ≡ (not h || x)
+released h x e = rw e
+
+asked : (h x y : Bool) → h ≡ true → y ≡ x → y ≡ (not h || x)
+asked h x y e f = rw e f
+
+returns : tie.Need-returns
+unfolding resetOk
+returns c = λ k. let a = c .before .before .args in released (a .c .held) (queuesClear (queuesOf k (a .l) (a .h)) && controlClear (a .c) && idle (a .p)) (not-true _ (c .if1 .taken))
 
 queues-clear-requires : tie.Need-queues-clear-requires
 queues-clear-requires c κs = search needs
@@ -13,10 +29,11 @@ control-clear-requires c κs = search needs
 is-idle-requires : tie.Need-is-idle-requires
 is-idle-requires c κs = search needs
 
-returns : tie.Need-returns
+returns-2 : tie.Need-returns-2
 unfolding resetOk
-returns c = λ k. rw (c .is-idle .ensures, c .before .control-clear .ensures, c .before .before .queues-clear .ensures k)
+returns-2 c = λ k. let a = c .before .before .before .before .before .args in asked (a .c .held) (queuesClear (queuesOf k (a .l) (a .h)) && controlClear (a .c) && idle (a .p)) _ (not-false _ (c .before .before .before .if1 .left)) (rw (c .is-idle .ensures, c .before .control-clear .ensures, c .before .before .queues-clear .ensures k))
 
 pub reset-ok-spec : {M : Type 1} → statement M
 reset-ok-spec =
-    tie.close (tie.spec queues-clear-requires control-clear-requires is-idle-requires returns)
+    tie.close
+    (tie.spec returns queues-clear-requires control-clear-requires is-idle-requires returns-2)

@@ -3,17 +3,11 @@ use borrow.Author.Needs.{needs}
 use Rattle.formed_transfer.proofs.transfer_ok.Statement.{statement}
 use Rattle.formed_transfer.proofs.transfer_ok.Tie as tie
 
-cast-result : tie.Need-cast-result
-cast-result c = search needs
-
-unit-requires : tie.Need-unit-requires
-unit-requires c κs = search needs
-
-rem-result : tie.Need-rem-result
-rem-result c = search needs
+part-ok-requires : tie.Need-part-ok-requires
+part-ok-requires c κs = search needs
 
 returns : tie.Need-returns
 returns c = cc
 
 pub transfer-ok-spec : {M : Type 1} → statement M
-transfer-ok-spec = tie.close (tie.spec cast-result unit-requires rem-result returns)
+transfer-ok-spec = tie.close (tie.spec part-ok-requires returns)

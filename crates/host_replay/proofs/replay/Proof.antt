@@ -1,27 +1,48 @@
 -- `host_replay::replay` meets its contract.
-use borrow.Author.Needs.{needs}
-use borrow.Author.Tests.{not-true, not-false}
 use mathlib.Core.Path.{ap, sym, _∙_}
 use mathlib.Core.List.{[]}
+use borrow.Author.Needs.{needs}
+use borrow.Author.Tests.{not-true, not-false}
 use Rattle.bank.specs.declared.Bank.{Bank}
-use Rattle.answer.specs.Given.{controller}
+use Rattle.model.specs.View.{tables}
+use Rattle.answer.specs.Given.{bankWith, controller}
 use Rattle.playback_model.specs.Replay.{replayOf}
+use Rattle.image_model.specs.Image.{stateIn, headsIn, kept}
 use Rattle.host_model.specs.Host.{Replayed}
-use Rattle.host_model.proofs.Replaying.{said, unsaid}
+use Rattle.host_model.proofs.Replaying.{unformed, said}
+use Rattle.host_replay.proofs.Said.{long, is-sized, is-encoded, not-said, kept-bank, said-by-parts}
 use Rattle.host_replay.proofs.replay.Statement.{statement}
 use Rattle.host_replay.proofs.replay.Tie as tie
 
-decode-requires : tie.Need-decode-requires
-decode-requires c κs = search needs
+words-of-requires : tie.Need-words-of-requires
+words-of-requires c κs = search needs
+
+is-sized-requires : tie.Need-is-sized-requires
+is-sized-requires c κs = search needs
+
+slice-aggregate-is-encoded : tie.Need-slice-aggregate-is-encoded
+slice-aggregate-is-encoded c = search needs
 
 is-encoded-requires : tie.Need-is-encoded-requires
 is-encoded-requires c κs = search needs
 
-bank-if-requires : tie.Need-bank-if-requires
-bank-if-requires c κs = search needs
+slice-aggregate-state-in : tie.Need-slice-aggregate-state-in
+slice-aggregate-state-in c = search needs
 
-replay-requires : tie.Need-replay-requires
-replay-requires c κs = search needs
+state-in-requires : tie.Need-state-in-requires
+state-in-requires c κs = search needs
+
+slice-aggregate-heads-in : tie.Need-slice-aggregate-heads-in
+slice-aggregate-heads-in c = search (needs, c .before .before .before .before .before .before .before .before .before .before .before .before .before .words-of .ensures .0)
+
+heads-in-requires : tie.Need-heads-in-requires
+heads-in-requires c κs = c .before .before .before .before .before .before .before .before .before .before .before .before .before .words-of .ensures .0
+
+heads-if-requires : tie.Need-heads-if-requires
+heads-if-requires c κs = search needs
+
+on-parts-requires : tie.Need-on-parts-requires
+on-parts-requires c κs = search needs
 
 tell-requires : tie.Need-tell-requires
 tell-requires c κs = search needs
@@ -37,21 +58,24 @@ same-length-3 c = search needs
 
 returns : tie.Need-returns
 returns c =
-    let q = c .before .before .before .before .before .before .before in
-    let d = c .before .before .before .before .before .before .before .before .before .before in
-    let p = d .before .before .before .before .before .before .before .before in
-    let a = p .args in
-    let u = c .before .before .tell .ensures in
-    let f = not-true _ (c .before .before .before .before .if1 .taken) in
-    let e = unsaid (a .file .now) (a .i) (a .limit) (a .image .now) (a .store .now) (a .told .now) (p .pre) (sym (d .is-encoded .ensures) ∙ f) _ (c .before .before .before .before .before .before .before .before .before .bank-if .ensures .1 f) _ (q .replay .ensures) in (
-      u .0 ∙ ap (λ (h : Replayed). h .number) e,
-      ap (λ (h : Replayed). h .image) e,
-      ap (λ (h : Replayed). h .store) e,
-      u .1 ∙ ap (λ (h : Replayed). h .told) e,
+    let a = c .before .before .before .before .before .before .before .before .before .before .before .before .before .before .before .before .before .before .before .before .before .before .before .before .before .before .before .before .before .before .before .before .before .args in
+    let k = kept (a .image .now) (a .flags .now) (a .commands .now) (a .payloads .now) in
+    let t = not-true _ (c .before .before .before .before .if1 .taken) in
+    let n = not-said k _ _ _ (c .before .before .before .before .before .before .before .before .before .before .before .before .before .before .before .before .before .before .before .is-sized .ensures) (c .before .before .before .before .before .before .before .before .before .before .before .before .before .before .before .before .before .is-encoded .ensures) (c .before .before .before .before .before .before .before .before .before .before .before .before .before .before .before .before .before .before .before .before .before .before .before .before .before .before .before .words-of .ensures .1) t in
+    let w = c .before .before .before .before .before .before .before .before .before .before .before .before .heads-if .ensures .1 t (c .before .before .before .before .before .before .before .before .before .before .before .before .before .before .before .state-in .result) (a .flags .now) (a .commands .now) (a .payloads .now) in
+    let u = unformed (a .file .now) (a .i) (a .limit) k (a .store .now) (a .told .now) n _ w _ (c .before .before .before .before .before .before .before .on-parts .ensures) in
+    let v = c .before .before .tell .ensures in (
+      v .0 ∙ ap (λ (h : Replayed). h .number) (u .1),
+      ap (λ (b : Bank). kept (a .image .now) (b .flags) (b .commands) (b .payloads)) (u .0) ∙ ap (λ (h : Replayed). h .kept) (u .1),
+      ap (λ (h : Replayed). h .store) (u .1),
+      v .1 ∙ ap (λ (h : Replayed). h .told) (u .1),
     )
 
 encode-requires : tie.Need-encode-requires
-encode-requires c κs = c .before .before .before .before .before .before .before .before .before .before .before .before .before .before .before .pre
+encode-requires c κs =
+    let a = c .before .before .before .before .before .before .before .before .before .before .before .before .before .before .before .before .before .before .before .before .before .before .before .before .before .before .before .before .before .before .args in
+    let k = kept (a .image .now) (a .flags .now) (a .commands .now) (a .payloads .now) in
+    long k _ _ _ (c .before .before .before .before .before .before .before .before .before .before .before .before .before .before .before .before .is-sized .ensures) (c .before .before .before .before .before .before .before .before .before .before .before .before .before .before .is-encoded .ensures) (c .before .before .before .before .before .before .before .before .before .before .before .before .before .before .before .before .before .before .before .before .before .before .before .before .words-of .ensures .1) (not-false _ (c .before .if1 .left))
 
 tell-requires-2 : tie.Need-tell-requires-2
 tell-requires-2 c κs = search needs
@@ -67,29 +91,36 @@ same-length-6 c = search needs
 
 returns-2 : tie.Need-returns-2
 returns-2 c =
-    let q = c .before .before .before .before .before .before .before .before .before .before .before in
-    let d = c .before .before .before .before .before .before .before .before .before .before .before .before .before .before in
-    let p = d .before .before .before .before .before .before .before .before in
-    let a = p .args in
-    let u = c .before .before .tell2 .ensures in
-    let f = not-false _ (c .before .before .before .before .before .before .before .before .if1 .left) in
-    let b = c .before .before .before .before .before .before .before .before .before .before .before .before .before .bank-if .ensures .0 f ∙ d .before .before .decode .ensures in
-    let r = q .replay .ensures ∙ ap (λ (b : Bank). replayOf (a .file .now) (a .i) (a .limit) (controller b (a .store .now) [])) b in
-    let e = said (a .file .now) (a .i) (a .limit) (a .image .now) (a .store .now) (a .told .now) (p .pre) (sym (d .is-encoded .ensures) ∙ f) _ r in (
-      u .0 ∙ ap (λ (h : Replayed). h .number) e,
-      c .before .before .before .before .before .before .encode .ensures ∙ ap (λ (h : Replayed). h .image) e,
+    let a = c .before .before .before .before .before .before .before .before .before .before .before .before .before .before .before .before .before .before .before .before .before .before .before .before .before .before .before .before .before .before .before .before .before .before .before .before .before .args in
+    let k = kept (a .image .now) (a .flags .now) (a .commands .now) (a .payloads .now) in
+    let t = not-false _ (c .before .before .before .before .before .before .before .before .if1 .left) in
+    let q = c .before .before .before .before .before .before .before .before .before .before .before .before .before .before .before .before .before .before .before .before .before .before .before .before .before .before .before .before .before .before .before .words-of .ensures .1 (long k _ _ _ (c .before .before .before .before .before .before .before .before .before .before .before .before .before .before .before .before .before .before .before .before .before .before .before .is-sized .ensures) (c .before .before .before .before .before .before .before .before .before .before .before .before .before .before .before .before .before .before .before .before .before .is-encoded .ensures) (c .before .before .before .before .before .before .before .before .before .before .before .before .before .before .before .before .before .before .before .before .before .before .before .before .before .before .before .before .before .before .before .words-of .ensures .1) t) in
+    let b = said-by-parts k _ _ (c .before .before .before .before .before .before .before .before .before .before .before .before .before .before .before .before .before .before .before .state-in .ensures ∙ ap stateIn q) (c .before .before .before .before .before .before .before .before .before .before .before .before .before .before .before .before .heads-if .ensures .0 t ∙ c .before .before .before .before .before .before .before .before .before .before .before .before .before .before .before .before .before .heads-in .ensures ∙ ap headsIn q) in
+    let y = c .before .before .before .before .before .before .before .before .before .before .before .on-parts in
+    let left = bankWith (y .result .state) (y .result .heads) (tables (y .last .1 .1 .0) (y .last .1 .1 .1 .0) (y .last .1 .1 .1 .1 .0) []) in
+    let r = y .ensures ∙ ap (λ (x : Bank). replayOf (a .file .now) (a .i) (a .limit) (controller x (a .store .now) [])) b in
+    let e = said (a .file .now) (a .i) (a .limit) k (a .store .now) (a .told .now) (is-sized k _ _ _ (c .before .before .before .before .before .before .before .before .before .before .before .before .before .before .before .before .before .before .before .before .before .before .before .is-sized .ensures) (c .before .before .before .before .before .before .before .before .before .before .before .before .before .before .before .before .before .before .before .before .before .is-encoded .ensures) (c .before .before .before .before .before .before .before .before .before .before .before .before .before .before .before .before .before .before .before .before .before .before .before .before .before .before .before .before .before .before .before .words-of .ensures .1) t) (is-encoded k _ _ _ (c .before .before .before .before .before .before .before .before .before .before .before .before .before .before .before .before .before .before .before .before .before .before .before .is-sized .ensures) (c .before .before .before .before .before .before .before .before .before .before .before .before .before .before .before .before .before .before .before .before .before .is-encoded .ensures) (c .before .before .before .before .before .before .before .before .before .before .before .before .before .before .before .before .before .before .before .before .before .before .before .before .before .before .before .before .before .before .before .words-of .ensures .1) t) _ r in
+    let v = c .before .before .tell2 .ensures in (
+      v .0 ∙ ap (λ (h : Replayed). h .number) e,
+      kept-bank _ left (c .before .before .before .before .before .before .encode .ensures) ∙ ap (λ (h : Replayed). h .kept) e,
       ap (λ (h : Replayed). h .store) e,
-      u .1 ∙ ap (λ (h : Replayed). h .told) e,
+      v .1 ∙ ap (λ (h : Replayed). h .told) e,
     )
 
 pub replay-spec : {M : Type 1} → statement M
 replay-spec =
     tie.close
     (tie.spec
-    decode-requires
+    words-of-requires
+    is-sized-requires
+    slice-aggregate-is-encoded
     is-encoded-requires
-    bank-if-requires
-    replay-requires
+    slice-aggregate-state-in
+    state-in-requires
+    slice-aggregate-heads-in
+    heads-in-requires
+    heads-if-requires
+    on-parts-requires
     tell-requires
     same-length
     same-length-2

@@ -22,6 +22,14 @@ pub extern "C" fn thymewax_replay(
     ensures { λ n. ⌜ (let h = replayIn (now (file .entry)) i limit (kept (now (image .entry)) (now (flags .entry)) (now (commands .entry)) (now (payloads .entry))) (now (store .entry)) (now (told .entry)) in (n ≡ h .number) × (kept (now (image .exit)) (now (flags .exit)) (now (commands .exit)) (now (payloads .exit)) ≡ h .kept) × (now (store .exit) ≡ h .store) × (now (told .exit) ≡ h .told)) ⌝ }
 {
     host_replay::replay(
-        image, flags, commands, payloads, store, file, i, limit, told,
+        image,
+        flags,
+        commands,
+        payloads,
+        store,
+        file,
+        i,
+        limit,
+        told,
     )
 }

@@ -248,7 +248,7 @@ def logs(program):
 def ledgers(_):
     """At every call the commands that wait are the words of CMD, those with an unread receipt are
     as many as CMDR has, one is open where a transfer is, and the data words are those of SDO."""
-    removed = Counter()
+    removed, parts = Counter(), 0
     for seed in SEEDS:
         model, ledger = Model.set_up(), Ledger()
         for made in inputs.run(model, [session.calls(generated(seed, CALLS))]):
@@ -267,9 +267,10 @@ def ledgers(_):
         equal('ledgers', 'balance', ledger.taken,
               ledger.receipts_read + sum(entry.whole for entry in entries)
               + (ledger.open is not None))
-        equal('ledgers', 'parts of commands', all(entry.whole for entry in entries), False)
+        parts += sum(not entry.whole for entry in entries)
         equal('ledgers', 'something to count', min(ledger.receipts_read, len(ledger.lost)) > 10,
               True)
+    equal('ledgers', 'parts of commands', parts > 0, True)
     equal('ledgers', 'words removed', min(removed[count] for count in range(5)) > 0, True)
 
 

@@ -56,4 +56,4 @@ pub hosted-from-set-up : HostedFromSetUp
 unfolding HostedFromSetUp SetUpWellFormed
 hosted-from-set-up k caps marks id store cs n z =
     ap (λ (f : Fresh). hostRan (f .kept) store cs) (sym (set-up-done k caps marks id n z))
-    ∙ along cs (fresh caps marks id store) (fresh-typed caps marks id z) (set-up-well-formed caps marks id z)
+    ∙ along cs (freshController caps marks id store) (fresh-typed caps marks id z) (set-up-well-formed caps marks id z)

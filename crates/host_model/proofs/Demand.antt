@@ -96,7 +96,7 @@ pub host-keeps-demand : HostKeepsDemand
 unfolding HostKeepsDemand Demand SetUpWellFormed
 host-keeps-demand k caps marks id store qs t z e =
     let n = answered-0 k caps marks id z in
-    let l = fresh caps marks id store in
+    let l = freshController caps marks id store in
     let cs = named qs in
     let f = final rings l cs in
     let typed = fresh-typed caps marks id (n .1) in

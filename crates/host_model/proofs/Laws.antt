@@ -139,10 +139,10 @@ refused-replay-stays file i limit k st ts z w = go (lookNumber file i) refl
     go zero e = absurd (told-done (anyWrong (wanted file i limit)) n (r .number) e (ap (λ (x : Replay). x .told .number) (every-replay file i limit l)) z w)
     go (suc x) e =
         let h : n ≡ 0 → ⊥ = λ y. omega (arith, e, y) in
-        let b : begun n l ≡ replayOf file i limit l = refuses file i limit l n refl h in
+        let b : replayBegun n l ≡ replayOf file i limit l = refuses file i limit l n refl h in
         let m : n ≡ r .number = ap (λ (x : Replay). x .told .number) b in
         let u : tells n ≡ false = rw (ne-eqb n 0 h, ne-eqb n 27 (λ y. w (sym m ∙ y))) in
-        ap (leftBy k ts) (sym b) ∙ (λ j. record { number = m j; kept = same-kept k j; store = st; told = sym (untold (begun n l .told) ts u) j })
+        ap (leftBy k ts) (sym b) ∙ (λ j. record { number = m j; kept = same-kept k j; store = st; told = sym (untold (replayBegun n l .told) ts u) j })
 
 pub refused-section-stays : RefusedSectionStays
 unfolding RefusedSectionStays sectionIn

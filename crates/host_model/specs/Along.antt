@@ -42,4 +42,4 @@ HostedAlong = (l : Controller) (cs : List Lent) → inTypes (l .bank) ≡ true �
 -- from a set-up into any words and bytes of their lengths, with any store
 unfoldable pub HostedFromSetUp : Type 0
 HostedFromSetUp = (k : Kept) (caps marks : Sizes) (id : ℕ) (store : List ℕ) (cs : List Lent) → sized k ≡ true → setUp caps marks id .answer .number ≡ 0
-    → hostRan (setUpIn k caps marks id .kept) store cs ≡ modelRan (fresh caps marks id store) cs
+    → hostRan (setUpIn k caps marks id .kept) store cs ≡ modelRan (freshController caps marks id store) cs

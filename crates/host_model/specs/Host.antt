@@ -81,7 +81,7 @@ pub record Replayed : Type 0 where
 -- on the bank that is said. What is kept of no well-formed bank stands for the bank of a refused set-up: it is not well formed, so each record
 -- is answered 21, as `stepIn` answers its call
 abbrev pub bankFor : Kept → Bank
-bankFor k = cond (isKept k) (bankIn k) (refused .bank)
+bankFor k = cond (isKept k) (bankIn k) (refusedSetUp .bank)
 
 -- what is kept of a well-formed bank becomes that of the bank that the records left, anything else stays
 abbrev pub keptAfter : Kept → Bank → Kept

@@ -96,10 +96,10 @@ pub fn step(
     let s = image_fields::state_in(image);
     let h = image_fields::heads_in(image);
     if !formed::parts_formed(s, h, flags, commands) {
-        return host_parts::refused(21);
+        return host_parts::refused(number::NOT_WELL_FORMED);
     }
     match call_of(letter, offset, first, second) {
         Parsed::Named(c) => make(s, h, image, flags, commands, payloads, store, output, c),
-        Parsed::Skipped => host_parts::refused(27),
+        Parsed::Skipped => host_parts::refused(number::WRONG_RECORD),
     }
 }

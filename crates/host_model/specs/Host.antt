@@ -4,6 +4,7 @@ use mathlib.Core.Bool.{Bool, cond, _&&_, _||_}
 use mathlib.Core.List.{List, []}
 use lib.Dec.{eqb}
 use lib.ListN.{length, set}
+use Rattle.number.specs.Names as number
 use Rattle.bank.specs.declared.Answer.{Answer}
 use Rattle.bank.specs.declared.Bank.{Bank}
 use Rattle.bank.specs.declared.Sizes.{Sizes}
@@ -35,7 +36,7 @@ unfoldable pub setUpIn : Kept → Sizes → Sizes → ℕ → Fresh
 setUpIn k caps marks id =
     let r = setUp caps marks id in
     let n = r .answer .number in
-    cond (sized k) (record { number = n; kept = cond (eqb n 0) (keptOf (r .bank)) k }) (record { number = 21; kept = k })
+    cond (sized k) (record { number = n; kept = cond (eqb n 0) (keptOf (r .bank)) k }) (record { number = number.notWellFormed; kept = k })
 
 -- ── One call ──────────────────────────────────────────────────────────────────────────────────────────────────
 -- a call in numbers: those of a record of a trace, its second byte 0. The trigger has no letter there; here it has G
@@ -61,10 +62,10 @@ refusal n k st o = record { answer = record { value = 0; number = n }; kept = k;
 -- on the bank that is said. 27 for numbers that name no call, as a replay has it for such a record
 abbrev pub madeIn : Parsed → Kept → List ℕ → List ℕ → Hosted
 madeIn (Named c) k st o = hosted (step rings (controller (bankIn k) st o) c)
-madeIn Skipped k st o = refusal 27 k st o
+madeIn Skipped k st o = refusal number.wrongRecord k st o
 
 unfoldable pub stepIn : Parsed → Kept → List ℕ → List ℕ → Hosted
-stepIn p k st o = cond (isKept k) (madeIn p k st o) (refusal 21 k st o)
+stepIn p k st o = cond (isKept k) (madeIn p k st o) (refusal number.notWellFormed k st o)
 
 -- value and number in one number
 abbrev pub packedOf : Answer → ℕ
@@ -89,7 +90,7 @@ keptAfter k b = cond (isKept k) (keptOf b) k
 
 -- whether records may have been done: 24, 25 and 26 are refusals, and no lent word changes
 abbrev pub tells : ℕ → Bool
-tells n = eqb n 0 || eqb n 27
+tells n = eqb n 0 || eqb n number.wrongRecord
 
 -- how many records it did, value and number of its last answer: a lent word that is not there is not written. The remainder cuts nothing (`NothingCut`)
 abbrev pub toldIn : Report → List ℕ → List ℕ

@@ -5,6 +5,7 @@ use mathlib.Core.Path.{_≡_}
 use mathlib.Core.Bool.{true, false}
 use mathlib.Core.List.{List, [], _∷_}
 use lib.ListN.{length}
+use Rattle.number.specs.Names as number
 use Rattle.model.specs.declared.Call.{Call}
 use Rattle.model.specs.declared.Call.the-variants.{Trigger}
 use Rattle.model.specs.Rings.{Controller}
@@ -27,7 +28,7 @@ CalledIsNamed =
 -- first wrong one; nothing but what is told changes
 unfoldable pub NotKeptIsRefused : Type 0
 NotKeptIsRefused = (k : Kept) → isKept k ≡ false
-    → ((p : Parsed) (st o : List ℕ) → stepIn p k st o ≡ refusal 21 k st o)
+    → ((p : Parsed) (st o : List ℕ) → stepIn p k st o ≡ refusal number.notWellFormed k st o)
     × ((file : List ℕ) (i limit : ℕ) (st ts : List ℕ) → (let t = all21 file i limit in replayIn file i limit k st ts ≡ record { number = t .number; kept = k; store = st; told = toldIn t ts }))
 
 -- a number other than 0 and 19: image, tables, store and output are as they were, and the value is 0
@@ -37,7 +38,7 @@ RefusedStays = (p : Parsed) (k : Kept) (st o : List ℕ) → (let n = stepIn p k
 -- likewise a replay, but for 27, which leaves what the records before it left, and the look-up of a section: all that is lent, the words for what is told too
 unfoldable pub RefusedReplayStays : Type 0
 RefusedReplayStays = (file : List ℕ) (i limit : ℕ) (k : Kept) (st ts : List ℕ)
-    → (let n = replayIn file i limit k st ts .number in (n ≡ 0 → ⊥) → (n ≡ 27 → ⊥) → replayIn file i limit k st ts ≡ record { number = n; kept = k; store = st; told = ts })
+    → (let n = replayIn file i limit k st ts .number in (n ≡ 0 → ⊥) → (n ≡ number.wrongRecord → ⊥) → replayIn file i limit k st ts ≡ record { number = n; kept = k; store = st; told = ts })
 
 unfoldable pub RefusedSectionStays : Type 0
 RefusedSectionStays = (file : List ℕ) (i : ℕ) (ws : List ℕ)

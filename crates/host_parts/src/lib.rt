@@ -60,7 +60,7 @@ pub fn tell(t: Report, told: &mut [u32]) -> u32
     ensures { λ n. ⌜ (n ≡ t .number) × (now (told .exit) ≡ toldIn t (now (told .entry))) ⌝ }
 {
     let n = t.number;
-    if !((n == 0) | (n == 27)) {
+    if !((n == 0) | (n == number::WRONG_RECORD)) {
         return n;
     }
     put(told, 0, (t.count % 0x1_0000_0000) as u32);

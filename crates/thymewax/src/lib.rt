@@ -45,7 +45,7 @@ pub extern "C" fn thymewax_set_up(
     ensures { λ n. ⌜ (let h = setUpIn (kept (now (image .entry)) (now (flags .entry)) (now (commands .entry)) (now (payloads .entry))) (record { cmd = cmd; cmdr = cmdr; sdo = sdo; sdi = sdi; ibi = ibi }) (record { cmd = cmdmark; cmdr = cmdrmark; sdo = sdomark; sdi = sdimark; ibi = ibimark }) id in (n ≡ h .number) × (kept (now (image .exit)) (now (flags .exit)) (now (commands .exit)) (now (payloads .exit)) ≡ h .kept)) ⌝ }
 {
     if !host_parts::is_sized(image, flags, commands, payloads) {
-        return 21;
+        return number::NOT_WELL_FORMED;
     }
     let caps = Sizes {
         cmd: cmd,
@@ -81,10 +81,10 @@ pub extern "C" fn thymewax_step(
     ensures { λ r. ⌜ (let h = stepIn (callOf letter offset first second) (kept (now (image .entry)) (now (flags .entry)) (now (commands .entry)) (now (payloads .entry))) (now (store .entry)) (now (output .entry)) in (r ≡ packedOf (h .answer)) × (kept (now (image .exit)) (now (flags .exit)) (now (commands .exit)) (now (payloads .exit)) ≡ h .kept) × (now (store .exit) ≡ h .store) × (now (output .exit) ≡ h .output)) ⌝ }
 {
     if !host_parts::is_sized(image, flags, commands, payloads) {
-        return host_parts::refused(21);
+        return host_parts::refused(number::NOT_WELL_FORMED);
     }
     if !image::is_encoded(image) {
-        return host_parts::refused(21);
+        return host_parts::refused(number::NOT_WELL_FORMED);
     }
     host_calls::step(
         image,

@@ -6,17 +6,15 @@
 Needs the shared library (`python3 -m thymewax.build`). Exit status 0 only if all is as expected.
 """
 
-import ctypes
-import itertools
 import pathlib
 import sys
 
 sys.path.insert(0, str(pathlib.Path(__file__).resolve().parents[2]))
 
 from tests.hosts.image_words import (
-    CAPACITY, COMMANDS, DATA, FLAGS, HEAD, INTERRUPT_SYNC, LARGEST, LENGTH, LEVEL, MOST, MOVED,
-    NAMES, PART, PENDING_5, PENDING_6, PENDING_7, PHASE, PLACE, QUEUES, RECEIPT_SYNC, SCRATCH,
-    WATERMARK)
+    CAPACITY, COMMANDS, DATA, HEAD, INTERRUPT_SYNC, LARGEST, LENGTH, LEVEL, MOST, MOVED, NAMES,
+    PART, PENDING_5, PENDING_6, PENDING_7, PHASE, PLACE, QUEUES, RECEIPT_SYNC, SCRATCH, WATERMARK)
+from tests.hosts.lent import kept, row_of, words
 from tests.scripts.bank import BURST_LENGTH, CMD, LONGEST, MOST_CAPACITY, SDI
 from tests.scripts.lines import lent
 from tests.scripts.source import Source
@@ -24,7 +22,7 @@ from tests.shared.trial import equal, generated, main
 from thymewax import Answer, Call, Model, Number, Register, SetUp, section, session, trace
 from thymewax.calls import DIGITS
 from thymewax.image import IMAGE_WORDS, TABLES, WORDS, Phase
-from thymewax.library import VERSION, Word, load
+from thymewax.library import VERSION, load
 
 CALLS = [Call(letter) for letter in DIGITS] + [Call('G'), Call('Q'), Call('X', 0, 256)]
 TRACE = trace.join(trace.records([Call('R', 0), Call('R', 4)]))
@@ -142,26 +140,6 @@ def other_stores():
         equal('other stores', length, other.replay(TRACE),
               (Number.DONE, 2, (0, Number.STORE_LENGTH)))
         equal('other stores', length, state(other), before)
-
-
-def words(*numbers):
-    return (Word * len(numbers))(*numbers)
-
-
-def kept(row):
-    """Image, its length, and the tables, as the archive takes them: the tables are the last words
-    of a row, whatever the length of the image before them."""
-    image, tables = row[:-TABLES], iter(row[-TABLES:])
-    flags, commands, data = (itertools.islice(tables, len(table))
-                             for table in (FLAGS, COMMANDS, DATA))
-    return (words(*image), len(image), (ctypes.c_uint8 * len(FLAGS))(*flags), words(*commands),
-            words(*data))
-
-
-def row_of(pieces):
-    """The row that is lent."""
-    image, _, *tables = pieces
-    return [*image, *itertools.chain(*tables)]
 
 
 def counted(length):

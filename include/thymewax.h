@@ -321,9 +321,10 @@ static inline struct thymewax_answer thymewax_receive(struct thymewax *m, uint32
     return thymewax_model_step(m, THYMEWAX_LETTER_RECEIVE, 0, byte, 0);
 }
 
-/* The bus finishes the transfer with a code: 0 none, 1 CE0, 4 CE2, 6 NACK, 8
- * unknown address. The value is the receipt, which goes to CMDR: bits 23:20 the
- * code, 19:8 the bytes moved, 7:0 the sync. In a burst it is 0. */
+/* The bus finishes the transfer with a code: 0 without an error; CE0 is 1, CE2 is
+ * 4, NACK is 6, an unknown address is 8. The value is the receipt, which goes to
+ * CMDR: bits 23:20 the code, 19:8 the bytes moved, 7:0 the sync. In a burst it is
+ * 0. */
 static inline struct thymewax_answer thymewax_finish(struct thymewax *m, uint32_t code)
 {
     return thymewax_model_step(m, THYMEWAX_LETTER_FINISH, 0, code, 0);

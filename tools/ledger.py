@@ -105,7 +105,7 @@ class Ledger:
         return self.open
 
     def _send(self, made: Made) -> None:
-        # A word leaves SDO with its first byte. A burst sends from its own words.
+        # A word is taken from SDO as its first byte is sent. A burst sends from its own words.
         if self.open is None:
             return
         if self.open.sent % 4 == 0:

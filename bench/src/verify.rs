@@ -7,7 +7,7 @@ use bench::plain::replay::{replay, Ran};
 use bench::trace::file::{file_of, record};
 use bench::trace::{self, wrong, LETTERS};
 
-/// 02, section 9: "each letter answered 0 ten thousand times or more".
+/// How often at least a list has each letter done (02 §9).
 const LEAST_ANSWERED: usize = 10_000;
 
 /// How many calls of a letter a list has, and how many of them are answered 0.

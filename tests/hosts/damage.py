@@ -14,14 +14,15 @@ sys.path.insert(0, str(pathlib.Path(__file__).resolve().parents[2]))
 from tests.hosts.image_words import (
     CAPACITY, COMMANDS, DATA, HEAD, INTERRUPT_SYNC, LARGEST, LENGTH, LEVEL, MOST, MOVED, NAMES,
     PART, PENDING_5, PENDING_6, PENDING_7, PHASE, PLACE, QUEUES, RECEIPT_SYNC, SCRATCH, WATERMARK)
+from tests.hosts.lent import kept, row_of, words
 from tests.scripts.bank import BURST_LENGTH, CMD, LONGEST, MOST_CAPACITY, SDI
 from tests.scripts.lines import lent
 from tests.scripts.source import Source
 from tests.shared.trial import equal, generated, main
 from thymewax import Answer, Call, Model, Number, Register, SetUp, section, session, trace
 from thymewax.calls import DIGITS
-from thymewax.image import WORDS, Phase
-from thymewax.library import Word, load
+from thymewax.image import IMAGE_WORDS, TABLES, WORDS, Phase
+from thymewax.library import VERSION, load
 
 CALLS = [Call(letter) for letter in DIGITS] + [Call('G'), Call('Q'), Call('X', 0, 256)]
 TRACE = trace.join(trace.records([Call('R', 0), Call('R', 4)]))
@@ -94,7 +95,7 @@ def damaged():
                         (MOVED, 7), (MOVED, 0x100), (PART, MOST)):
         refuses('open transfer, %s is %x' % (NAMES[place], word), with_word(image, place, word),
                 store)
-    for length in (0, 1, 199, 201, 400):
+    for length in (0, 1, WORDS - 1, WORDS + 1, 2 * WORDS):
         refuses('%d words' % length, (list(image) * 2)[:length], store)
 
 
@@ -141,28 +142,34 @@ def other_stores():
         equal('other stores', length, state(other), before)
 
 
-def words(*numbers):
-    return (Word * len(numbers))(*numbers)
+def counted(length):
+    """A row whose image has some length, each word another as far as a byte has them."""
+    return [number % 256 for number in range(length + TABLES)]
 
 
 def raw_set_up():
-    """Images of other lengths and numbers out of range leave the image as it was."""
+    """Images of other lengths and numbers out of range leave image and tables as they were; a
+    set-up that is done writes all of them."""
     library, numbers = load(), list(SetUp())
-    for length in (0, 1, 199, 200, 201):
-        image = words(*range(length))
-        number = library.thymewax_set_up(image, length, *numbers)
+    equal('raw set-up', 'version', library.thymewax_version(), VERSION)
+    equal('raw set-up', 'image words', library.thymewax_image_words(), IMAGE_WORDS)
+    for length in (0, 1, IMAGE_WORDS - 1, IMAGE_WORDS, IMAGE_WORDS + 1, WORDS):
+        pieces = kept(counted(length))
+        number = library.thymewax_set_up(*pieces, *numbers)
+        right = length == IMAGE_WORDS
         equal('raw set-up', '%d words' % length, number,
-              Number.DONE if length == WORDS else Number.NOT_WELL_FORMED)
-        if number:
-            equal('raw set-up', '%d words' % length, list(image), list(range(length)))
+              Number.DONE if right else Number.NOT_WELL_FORMED)
+        equal('raw set-up', '%d words' % length, row_of(pieces),
+              list(Model.set_up().image()) if right else counted(length))
     for place in range(len(numbers)):
-        image = words(*range(WORDS))
+        pieces = kept(counted(IMAGE_WORDS))
         given = [*numbers[:place], 2000, *numbers[place + 1:]]
-        equal('raw set-up', given, library.thymewax_set_up(image, WORDS, *given),
+        equal('raw set-up', given, library.thymewax_set_up(*pieces, *given),
               Number.SET_UP_OUT_OF_RANGE)
-        equal('raw set-up', given, list(image), list(range(WORDS)))
+        equal('raw set-up', given, row_of(pieces), counted(IMAGE_WORDS))
     # The length goes before the numbers.
-    equal('raw set-up', 'both', library.thymewax_set_up(words(*range(199)), 199, *[0] * 11),
+    equal('raw set-up', 'both',
+          library.thymewax_set_up(*kept(counted(IMAGE_WORDS - 1)), *[0] * len(numbers)),
           Number.NOT_WELL_FORMED)
 
 
@@ -171,9 +178,9 @@ def raw_lengths():
     library = load()
     model = Model.set_up()
     for length in range(6):
-        image, store, told = words(*model.image()), words(*model.store()), words(*[9] * length)
-        number = library.thymewax_replay(image, WORDS, store, len(store), TRACE, len(TRACE), 0, 1,
-                                         told, length)
+        store, told = words(*model.store()), words(*[9] * length)
+        number = library.thymewax_replay(*kept(model.image()), store, len(store), TRACE, len(TRACE),
+                                         0, 1, told, length)
         equal('raw lengths', 'told of %d' % length, (number, list(told)),
               (Number.DONE, ([1, 0x100, Number.DONE] + [9] * 3)[:length]))
         place = words(*[9] * length)
@@ -186,27 +193,27 @@ def raw_lengths():
         equal('raw lengths', '%d bytes' % length, number,
               Number.WRONG_MARK if length < len(trace.MARK)
               else Number.WRONG_TABLE if length < len(TRACE) else Number.DONE)
-    empty = words()
-    image, store = words(*model.image()), words(*model.store())
+    empty, store = words(), words(*model.store())
     equal('raw lengths', 'no output', library.thymewax_step(
-        image, WORDS, store, len(store), empty, 0, ord('R'), Register.VERSION, 0, 0), 0x100)
+        *kept(model.image()), store, len(store), empty, 0, ord('R'), Register.VERSION, 0, 0), 0x100)
 
 
 def raw_refusals():
     """A refusal writes no lent word; the binding then gives 0, 0 and an empty section."""
     library = load()
     good = released()
-    for image in (good.image(), with_word(good.image(), 0, 1025), list(good.image())[:199]):
+    too_large = with_word(good.image(), QUEUES[CMD] + CAPACITY, MOST_CAPACITY + 1)
+    for image in (good.image(), too_large, good.image()[1:]):
         for file, asked, number in (
                 (b'', 0, Number.WRONG_MARK), (TRACE[:3], 0, Number.WRONG_MARK),
                 (TRACE[:-1], 0, Number.WRONG_TABLE), (TRACE, 1, Number.NO_SUCH_SECTION)):
-            kept, store, told, place = (words(*image), words(*good.store()), words(9, 9, 9),
-                                        words(9, 9))
+            pieces, store, told, place = (kept(image), words(*good.store()), words(9, 9, 9),
+                                          words(9, 9))
             equal('raw refusals', number, library.thymewax_replay(
-                kept, len(kept), store, len(store), file, len(file), asked, 9, told, 3), number)
+                *pieces, store, len(store), file, len(file), asked, 9, told, 3), number)
             equal('raw refusals', number,
                   library.thymewax_section(file, len(file), asked, place, 2), number)
-            equal('raw refusals', number, (list(kept), tuple(store), list(told), list(place)),
+            equal('raw refusals', number, (row_of(pieces), tuple(store), list(told), list(place)),
                   (list(image), good.store(), [9, 9, 9], [9, 9]))
             equal('raw refusals', number, Model(image, good.store()).replay(file, asked),
                   (number, 0, NO_ANSWER))

@@ -22,10 +22,11 @@ from tests.hosts.formed_images import (SEEDS, SET_UPS, WANTED, filled, in_bursts
                                        traits)
 from tests.hosts.image_words import (CAPACITY, COMMANDS, ENABLE, FIELDS, FREE, ID, MOST, NAMES,
                                       OPS, PLACE, TRANSFER)
+from tests.hosts.lent import kept, put, row_of, words
 from tests.shared.trial import TRIED, Wrong, equal, main, run
 from thymewax import Number, Register
 from thymewax.image import WORDS
-from thymewax.library import Word, load
+from thymewax.library import load
 
 MOST_STORE = 5 * 1024
 # The archive's answers to a read of VERSION: the value in the low half, the number in the high.
@@ -65,20 +66,20 @@ def judged(reference, texts):
 def answered(image, damages):
     """The archive's answer for each damage, and the text of each image. The store has the length
     that the capacities ask for, where any bank has such a one."""
-    step, words, store = load().thymewax_step, (Word * WORDS)(*image), (Word * MOST_STORE)()
+    step, pieces, store = load().thymewax_step, kept(image), words(*[0] * MOST_STORE)
     sound = list(map('{:x}'.format, image))
     answers, texts = [], []
     for damage in damages:
         text = sound.copy()
         for place, number in damage:
-            words[place] = number
+            put(pieces, place, number)
             text[place] = '%x' % number
-        length = min(sum(words[CAPACITY:ID:4]), MOST_STORE)
-        answers.append(step(words, WORDS, store, length, None, 0, ord('R'), Register.VERSION, 0, 0))
+        length = min(sum(pieces[0][CAPACITY:ID:4]), MOST_STORE)
+        answers.append(step(*pieces, store, length, None, 0, ord('R'), Register.VERSION, 0, 0))
         texts.append(' '.join(text))
         for place, _ in damage:
-            words[place] = image[place]
-    if tuple(words) != image:
+            put(pieces, place, image[place])
+    if tuple(row_of(pieces)) != image:
         raise Wrong('a read of VERSION changed an image')
     return answers, texts
 
@@ -113,7 +114,7 @@ def compare(reference, image, damages):
 
 def damaged(reference):
     """All damages. Those of one word tell which fields were seen how."""
-    fields, words, total, differences = Counter(), set(), Counter(), 0
+    fields, places, total, differences = Counter(), set(), Counter(), 0
     for turn, image in enumerate(chosen(reference)):
         TRIED['images damaged'] += 1
         for kind, damage in KINDS.items():
@@ -127,12 +128,12 @@ def damaged(reference):
             if damage == single:
                 for ((place, _),), verdict in zip(damages, verdicts):
                     fields[FIELDS[place], verdict] += 1
-                    words.add(place)
+                    places.add(place)
     if differences:
         raise Wrong('%d differences in %d images' % (differences, sum(total.values())))
     TRIED.update({'well formed': total[True], 'not well formed': total[False]})
     for place in range(WORDS):
-        equal('words', '%s: damaged' % NAMES[place], place in words, True)
+        equal('words', '%s: damaged' % NAMES[place], place in places, True)
     for field in dict.fromkeys(FIELDS):
         left, broken = fields[field, True], fields[field, False]
         equal('fields', '%s: %d times left well formed, %d times not; each seen' % (

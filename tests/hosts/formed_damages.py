@@ -24,8 +24,10 @@ def near(*bounds):
 
 
 def edges(image, place):
-    """Numbers for a word: those near its bounds, 0, 1, each bit changed, all ones."""
+    """Numbers for a word: those near its bounds, 0, 1, each bit changed, all ones. A flag is a
+    byte."""
     now = image[place]
+    bits = 8 if place in FLAGS else 32
     queue = place - place % 4
     if place < ID:
         capacity = image[queue + CAPACITY]
@@ -40,7 +42,7 @@ def edges(image, place):
         bounds = (now & ~LENGTH_BITS | CARRIED_LENGTH << 8, now & ~LENGTH_BITS | 5 << 8)
     else:
         bounds = (LARGEST[place],) if place in LARGEST else ()
-    numbers = {*near(*bounds), 0, 1, MOST, *(now ^ 1 << bit for bit in range(32))}
+    numbers = {*near(*bounds), 0, 1, (1 << bits) - 1, *(now ^ 1 << bit for bit in range(bits))}
     numbers.update(PARTS if place == PART else ())
     return sorted(numbers - {now})
 

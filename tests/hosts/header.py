@@ -3,13 +3,15 @@
 
     header.py
 
-Each prototype is a function of libhost.a and each of its functions has a prototype, with the
-parameters that crates/host/src/lib.rt gives it, by name and type. Register offsets are those of
-docs/registers.svd, answer numbers those of docs/ANSWERS.md, all of them. A program that calls every
-inline function beside the archive's own, with all warnings as errors, compiles as C and C++ by each
-compiler that is there and finds both the same. The example and the programs of docs/C.md print what
-they should, the example also under valgrind. Damaged headers must be refused. The archive lies in
-target/staticlib or in the folder THYMEWAX_LIB_DIR. Exit status 0 only if all of it holds, 1 if not.
+Each prototype is a function of libthymewax.a and each of its functions has a prototype, with the
+parameters that crates/thymewax and crates/thymewax_replay give it, by name and type. Version, words
+of an image and lengths of tables are those of the definitions. Register offsets are those of
+docs/registers.svd, names of answers and their numbers those of docs/ANSWERS.md, all of them. A
+program that calls every inline function beside the archive's own, with all warnings as errors,
+compiles as C and C++ by each compiler that is there and finds both the same. The example and the
+programs of docs/C.md print what they should, the example also under valgrind. Damaged headers must
+be refused. The archive lies in target/staticlib or in the folder THYMEWAX_LIB_DIR. Exit status 0
+only if all of it holds, 1 if not.
 """
 
 import os
@@ -28,9 +30,11 @@ from tests.hosts.header_damages import DAMAGES
 from tests.hosts.header_program import CALLS, program
 
 LIBRARY = os.environ.get('THYMEWAX_LIB_DIR') or os.path.join(ROOT, 'target', 'staticlib')
-ARCHIVE = os.path.join(LIBRARY, 'libhost.a')
+ARCHIVE = os.path.join(LIBRARY, 'libthymewax.a')
 HEADER = os.path.join(ROOT, 'include', 'thymewax.h')
-SOURCE = os.path.join(ROOT, 'crates', 'host', 'src', 'lib.rt')
+SOURCES = [os.path.join(ROOT, 'crates', name, 'src', 'lib.rt') for name in ('thymewax', 'thymewax_replay')]
+IMAGE = os.path.join(ROOT, 'crates', 'image_model', 'specs', 'Image.antt')
+HOST = os.path.join(ROOT, 'crates', 'host_model', 'specs', 'Host.antt')
 MAP = os.path.join(ROOT, 'docs', 'registers.svd')
 ANSWERS = os.path.join(ROOT, 'docs', 'ANSWERS.md')
 PAGE = os.path.join(ROOT, 'docs', 'C.md')
@@ -90,8 +94,12 @@ def prototypes(header):
 
 
 def in_c(name, kind):
-    """The parameters that stand for one of the source: a slice is a pointer and a count."""
+    """The parameters that stand for one of the source: a slice is a pointer and a count, an array a
+    pointer."""
     name = joined(NAMES.get(name, name))
+    array_of = re.fullmatch(r'&mut \[(\w+); \d+\]', kind)
+    if array_of:
+        return [(TYPES[array_of[1]] + '*', name)]
     slice_of = re.fullmatch(r'&(mut )?\[(\w+)\]', kind)
     if not slice_of:
         return [(TYPES[kind], name)]
@@ -132,30 +140,36 @@ def registers():
             for register in ElementTree.parse(MAP).iter('register')}
 
 
-def meanings():
-    """What each number means."""
-    return {int(number): means for number, means in re.findall(r'^\| (\d+) \| ([^|]*) \|', read(ANSWERS), re.M)}
+def answers():
+    """The numbers by the names that their rows give them."""
+    return {name: int(number) for number, name in re.findall(r'^\| (\d+) \|.*\| `(\w+)` \|$', read(ANSWERS), re.M)}
 
 
-def is_named_for(name, means):
-    """The words of a number's name stand in what it means."""
-    return set(name.lower().split('_')) <= set(re.findall('[a-z]+', means.lower()))
+def lengths():
+    """The numbers that the header has from the definitions, by their names in the header."""
+    image = read(IMAGE)
+    flags, words = (int(re.search(r'eqb \(length \(k \.%s\)\) (\d+)' % table, image)[1])
+                    for table in ('flags', 'commands'))
+    return {'VERSION': int(re.search(r'^version = (\d+)$', read(HOST), re.M)[1]),
+            'IMAGE_WORDS': int(re.search(r'^size = (\d+)$', image, re.M)[1]),
+            'FLAG_BYTES': flags, 'OFFLOAD_WORDS': words}
 
 
 def wrong_declarations(text):
     """What a header declares otherwise than archive, source and documents."""
     header = bare(text)
-    declared, given = prototypes(header), exported(read(SOURCE))
+    declared, given = prototypes(header), exported('\n'.join(map(read, SOURCES)))
     found = ['%s: declared %s, exported %s' % (name, declared.get(name), given.get(name))
              for name in sorted({*declared, *given}) if declared.get(name) != given.get(name)]
     found += ['%s: in the header or in the archive only' % name for name in sorted(symbols() ^ set(declared))]
+    found += ['THYMEWAX_%s is not %d' % (name, number) for name, number in lengths().items()
+              if not re.search(r'^#define THYMEWAX_%s %d$' % (name, number), text, re.M)]
     offsets, svd = names(header, 'thymewax_register', 'THYMEWAX_REG_'), registers()
     found += ['register %s: %s in the header, %s in the map' % (name, offsets.get(name), svd.get(name))
               for name in sorted({*offsets, *svd}) if offsets.get(name) != svd.get(name)]
-    numbers, rows = names(header, 'thymewax_number', 'THYMEWAX_'), meanings()
-    found += ['%s = %d: the row of the number says %r' % (name, number, rows.get(number))
-              for name, number in numbers.items() if not is_named_for(name, rows.get(number, ''))]
-    found += ['number %d has no name' % number for number in sorted(set(rows) - set(numbers.values()))]
+    numbers, rows = names(header, 'thymewax_number', 'THYMEWAX_'), answers()
+    found += ['%s: %s in the header, %s in docs/ANSWERS.md' % (name, numbers.get(name), rows.get(name))
+              for name in sorted({*numbers, *rows}) if numbers.get(name) != rows.get(name)]
     return found
 
 
@@ -172,7 +186,8 @@ def wrong_program(folder, compiler, standard):
     alone = write(folder, 'alone' + ending, '#include "thymewax.h"\n#include "thymewax.h"\n')
     calls = write(folder, 'calls' + ending, program())
     made = os.path.join(folder, 'calls')
-    for step in ([*command, '-c', alone, '-o', made], [*command, calls, '-L' + LIBRARY, '-lhost', '-o', made], [made]):
+    for step in ([*command, '-c', alone, '-o', made], [*command, calls, '-L' + LIBRARY, '-lthymewax', '-o', made],
+                 [made]):
         status, text = run(step)
         if status:
             return ['%s, %s: %s' % (compiler, standard, text)]

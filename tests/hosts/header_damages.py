@@ -22,12 +22,19 @@ DAMAGES = (
     ('THYMEWAX_NOT_CARRIED = 29', 'THYMEWAX_NOT_CARRIED = 30'),
     ('    THYMEWAX_EMPTY = 3,', ''),
     ('LETTER_SEND = 0x54', 'LETTER_SEND = 0x58'),
-    ('IMAGE_WORDS 200', 'IMAGE_WORDS 201'),
+    # version and lengths
+    ('IMAGE_WORDS 40', 'IMAGE_WORDS 41'),
+    ('FLAG_BYTES 128', 'FLAG_BYTES 127'),
+    ('OFFLOAD_WORDS 16', 'OFFLOAD_WORDS 15'),
+    ('_VERSION 1', '_VERSION 2'),
     # inline functions
     ('capacities[0], capacities[1]', 'capacities[1], capacities[0]'),
     ('watermarks[3], watermarks[4]', 'watermarks[4], watermarks[3]'),
-    ('m->image[i] = 0', '(void)i'),
+    ('m->kept.image[i] = 0', '(void)i'),
     ('m->output = NULL', 'm->output = store'),
+    # The tables of a step, then those of a replay, which are told apart by how far in they stand.
+    *(('m->kept.commands, m->kept.payloads,\n%sm->store' % (' ' * columns),
+       'm->kept.payloads, m->kept.commands,\n%sm->store' % (' ' * columns)) for columns in (36, 38)),
     ('high & 0xffffffffu', 'packed & 0xffffffffu'),
     ('_INTERRUPT, 0, address, byte', '_INTERRUPT, 0, byte, address'),
     ('_FINISH, 0, code, 0', '_FINISH, 0, 0, code'),

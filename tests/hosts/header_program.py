@@ -57,21 +57,27 @@ CALLS = (
 
 # A model by the inline functions beside one by the archive's. Five different capacities and
 # watermarks show a wrong order. The trace has three sections, of two records, of one, and of one with
-# a wrong one behind it. A refusal writes no lent word, and the inline functions give 0 then.
+# a wrong one behind it; the second writes an offload command, which shows a table for another. A
+# refusal writes no lent word, and the inline functions give 0 then.
 PROGRAM = r'''
 #include <stdio.h>
 #include <stdlib.h>
 #include <string.h>
 #include "thymewax.h"
 
+#define STORE_WORDS 25
+/* What every call of the archive takes first. */
+#define KEPT kept.image, THYMEWAX_IMAGE_WORDS, kept.flags, kept.commands, kept.payloads
+
 static const uint32_t capacities[5] = {6, 5, 4, 7, 3}, watermarks[5] = {5, 4, 3, 2, 1};
 static const uint8_t trace[] = {
     'I', '3', 'T', 'R', 3, 0, 30, 0, 0, 0, 2, 0, 0, 0, 54, 0, 0, 0, 1, 0, 0, 0, 66, 0, 0, 0, 2, 0, 0, 0,
     'R', 0, 8, 0, 0, 0, 0, 0, 0, 0, 0, 0, 'R', 0, 6, 0, 0, 0, 0, 0, 0, 0, 0, 0,
-    'R', 0, 4, 0, 0, 0, 0, 0, 0, 0, 0, 0,
+    'W', 0, 0xc0, 2, 0x10, 1, 0, 0, 0, 0, 0, 0,
     'R', 0, 4, 0, 0, 0, 0, 0, 0, 0, 0, 0, 'G', 0, 0, 0, 0, 0, 0, 0, 0, 0, 0, 0};
-static uint32_t image[200], store[25], output[1], m_store[25], m_output[1];
-static uint32_t old_image[200], old_store[25], old_output[1];
+static struct thymewax_kept kept, old_kept;
+static uint32_t store[STORE_WORDS], output[1], m_store[STORE_WORDS], m_output[1];
+static uint32_t old_store[STORE_WORDS], old_output[1];
 static struct thymewax m;
 
 static void expect(const char *what, int holds)
@@ -84,20 +90,20 @@ static void expect(const char *what, int holds)
 
 static int same(void)
 {
-    return memcmp(image, m.image, sizeof image) == 0 && memcmp(store, m_store, sizeof store) == 0
+    return memcmp(&kept, &m.kept, sizeof kept) == 0 && memcmp(store, m_store, sizeof store) == 0
         && memcmp(output, m_output, sizeof output) == 0;
 }
 
 static void keep(void)
 {
-    memcpy(old_image, image, sizeof image);
+    old_kept = kept;
     memcpy(old_store, store, sizeof store);
     memcpy(old_output, output, sizeof output);
 }
 
 static int unchanged(void)
 {
-    return memcmp(image, old_image, sizeof image) == 0 && memcmp(store, old_store, sizeof store) == 0
+    return memcmp(&kept, &old_kept, sizeof kept) == 0 && memcmp(store, old_store, sizeof store) == 0
         && memcmp(output, old_output, sizeof output) == 0;
 }
 
@@ -105,7 +111,7 @@ static void call(const char *what, struct thymewax_answer a, uint32_t letter, ui
                  uint32_t first, uint32_t second, uint32_t number)
 {
     keep();
-    uint64_t packed = thymewax_step(image, 200, store, 25, output, 1, letter, offset, first, second);
+    uint64_t packed = thymewax_step(KEPT, store, STORE_WORDS, output, 1, letter, offset, first, second);
     expect(what, a.value == (packed & 0xffffffffu) && a.number == packed >> 32);
     expect(what, a.number == number && same());
     expect(what, number == THYMEWAX_DONE || number == THYMEWAX_WRONG_PARITY
@@ -123,7 +129,7 @@ static uint32_t replay(size_t bytes, uint32_t section, size_t limit)
     struct thymewax_replayed r = thymewax_model_replay(&m, trace, bytes, section, limit);
     struct thymewax_place p = thymewax_find_section(trace, bytes, section);
     keep();
-    uint32_t number = thymewax_replay(image, 200, store, 25, trace, bytes, section, limit, told, 3);
+    uint32_t number = thymewax_replay(KEPT, store, STORE_WORDS, trace, bytes, section, limit, told, 3);
     int done = number == THYMEWAX_DONE || number == THYMEWAX_WRONG_RECORD;
     expect("a replay's number", r.number == number);
     expect("a replay's memory", same() && (done || unchanged()));
@@ -149,24 +155,25 @@ static void replays(void)
 
 int main(void)
 {
+    expect("version", thymewax_version() == THYMEWAX_VERSION);
     expect("image words", thymewax_image_words() == THYMEWAX_IMAGE_WORDS);
-    expect("store words", thymewax_store_words(capacities) == 25);
+    expect("store words", thymewax_store_words(capacities) == STORE_WORDS);
     memset(&m, 0xff, sizeof m);
-    expect("set-up", thymewax_model_set_up(&m, capacities, watermarks, 90, m_store, 25) == THYMEWAX_DONE);
-    expect("set-up", thymewax_set_up(image, 200, 6, 5, 4, 7, 3, 5, 4, 3, 2, 1, 90) == THYMEWAX_DONE
-                         && same());
-    expect("an ID too large", thymewax_model_set_up(&m, capacities, watermarks, 256, m_store, 25)
+    expect("set-up", thymewax_model_set_up(&m, capacities, watermarks, 90, m_store, STORE_WORDS)
+                         == THYMEWAX_DONE);
+    expect("set-up", thymewax_set_up(KEPT, 6, 5, 4, 7, 3, 5, 4, 3, 2, 1, 90) == THYMEWAX_DONE && same());
+    expect("an ID too large", thymewax_model_set_up(&m, capacities, watermarks, 256, m_store, STORE_WORDS)
                                   == THYMEWAX_SET_UP_OUT_OF_RANGE);
     expect("a call after that", thymewax_read(&m, 0).number == THYMEWAX_NOT_WELL_FORMED);
-    expect("set-up again", thymewax_model_set_up(&m, capacities, watermarks, 90, m_store, 25)
+    expect("set-up again", thymewax_model_set_up(&m, capacities, watermarks, 90, m_store, STORE_WORDS)
                                == THYMEWAX_DONE && same());
-    expect("store", m.store == m_store && m.store_words == 25);
+    expect("store", m.store == m_store && m.store_words == STORE_WORDS);
     expect("output", m.output == NULL && m.output_words == 0);
     m.output = m_output;
     m.output_words = 1;
 CALLS
     replays();
-    m.image[0] = image[0] = 5000;
+    m.kept.image[0] = kept.image[0] = 5000;
     replays();
     expect("a damaged bank", thymewax_model_replay(&m, trace, sizeof trace, 0, 9).number == THYMEWAX_DONE);
     expect("a damaged bank", thymewax_model_replay(&m, trace, sizeof trace, 0, 9).count == 2);

@@ -1,18 +1,20 @@
-"""The words of an image by place and name, their bounds, and what of a command's first word a
-transfer has."""
+"""The words of image and tables, in one row, by place and name; their bounds; what of a command's
+first word a transfer has."""
 
 import itertools
 
 from tests.scripts.bank import QUEUES as QUEUE_NAMES
-from thymewax import Command
-from thymewax.image import WORDS
+from thymewax import Command, image as layout
 
 # Words of an image; a queue has four, from four times its number on.
 CAPACITY, WATERMARK, HEAD, LEVEL = range(4)
 (ID, SCRATCH, IRQ_MASK, OPS, IBI_CONFIG, SELECTED, ENABLE, RECEIPT_SYNC, INTERRUPT_SYNC, PENDING_5,
- PENDING_6, PENDING_7, PLACE, PHASE, KIND, HEADER, LENGTH, MOVED, ATTACHED, PART) = range(20, 40)
+ PENDING_6, PENDING_7, PLACE, PHASE, KIND, HEADER, LENGTH, MOVED, ATTACHED, PART) = range(20, layout.IMAGE_WORDS)
 QUEUES = range(0, 20, 4)
-FLAGS, COMMANDS, DATA = range(40, 168), range(168, 184), range(184, WORDS)
+# The tables follow: a word for each flag byte, then offload commands and data.
+FLAGS = range(layout.IMAGE_WORDS, layout.IMAGE_WORDS + layout.FLAGS)
+COMMANDS = range(FLAGS.stop, FLAGS.stop + layout.OFFLOAD_WORDS)
+DATA = range(COMMANDS.stop, layout.WORDS)
 TRANSFER = range(PHASE, PART + 1)
 CLEAR_IN_RESET = [*(queue + number for queue in QUEUES for number in (HEAD, LEVEL)),
                   *range(RECEIPT_SYNC, PART + 1)]
@@ -22,9 +24,9 @@ NAMES = [
     'ID', 'SCRATCH', 'IRQ_MASK', 'OPS', 'IBI_CONFIG', 'address selected', 'ENABLE', 'receipt sync',
     'interrupt sync', 'pending bit 5', 'pending bit 6', 'pending bit 7', 'burst place', 'phase',
     'kind', 'header bit', 'length', 'moved', 'attached', 'part word',
-    *('flags of %02x' % address for address in range(128)),
-    *('offload command %d' % number for number in range(16)),
-    *('offload data %d' % number for number in range(16)),
+    *('flags of %02x' % address for address in range(len(FLAGS))),
+    *('offload command %d' % number for number in range(len(COMMANDS))),
+    *('offload data %d' % number for number in range(len(DATA))),
 ]
 # Words that are counted together. No burst reaches the last offload command.
 GROUPS = {**dict.fromkeys(FLAGS, 'device flags'), **dict.fromkeys(COMMANDS, 'offload commands'),

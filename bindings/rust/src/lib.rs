@@ -1,8 +1,8 @@
 //! The host side of an I3C controller as a model: its registers, its five queues, its interrupts,
 //! and the bus as single events.
 //!
-//! The registers do what the register page says and are silent where it is. Beside each call
-//! stands a numbered [`Answer`] that says what happened. A [`Model`] is one controller; it is plain
+//! The registers do what the register page says and are silent where it is; each call also gives an
+//! [`Answer`], whose number tells what became of it. A [`Model`] is one controller; it is plain
 //! memory, is [`Send`] and [`Sync`], and every call on it ends, with any arguments.
 //!
 //! ```
@@ -45,8 +45,8 @@ mod trace;
 pub use answer::{Answer, Refusal};
 pub use call::Call;
 pub use model::{image_words, version, Kept, Model, IMAGE_WORDS, VERSION};
-pub use raw::Tables;
 pub use number::Number;
+pub use raw::Tables;
 pub use set_up::{Queue, SetUp};
 pub use trace::{section, sections, Replayed};
 

@@ -116,7 +116,7 @@ impl Model {
         &self.kept
     }
 
-    /// The memory of the queues, end to end: CMD, CMDR, SDO, SDI, IBI.
+    /// The memory of the queues: an area for each, from that of CMD to that of IBI.
     pub fn store(&self) -> &[u32] {
         &self.store
     }

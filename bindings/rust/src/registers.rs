@@ -11,7 +11,7 @@ pub const SCRATCH: u16 = 0x008;
 pub const ENABLE: u16 = 0x040;
 /// Which bits of IRQ_SOURCE are shown in IRQ_PENDING.
 pub const IRQ_MASK: u16 = 0x080;
-/// Source and mask; a 1 written to bits 5 to 7 clears that bit.
+/// The bits of IRQ_SOURCE that the mask shows. Of bits 7:5 a written 1 clears its own.
 pub const IRQ_PENDING: u16 = 0x084;
 /// The sources of interrupts. Read-only.
 pub const IRQ_SOURCE: u16 = 0x088;
@@ -37,7 +37,7 @@ pub const SDI_FIFO: u16 = 0x0e0;
 pub const IBI_FIFO: u16 = 0x0e4;
 /// Which of SDI, IBI and CMDR are empty: bits 2, 1, 0. Read-only.
 pub const FIFO_STATUS: u16 = 0x0e8;
-/// Bit 7 no transfer is open, 6:5 speed, 4:1 offload length, 0 mode.
+/// Mode in bit 0, offload length in 4:1, speed in 6:5; bit 7 is up while no transfer is open.
 pub const OPS: u16 = 0x100;
 /// Bit 1 listen, bit 0 enable. Write-only.
 pub const IBI_CONFIG: u16 = 0x140;

@@ -1,8 +1,9 @@
 //! Sections of a trace file, and what a replay gives.
 //!
-//! A trace opens with `I3TR`, a 16-bit count of sections (1 to 64), and for each section a 32-bit
-//! start in file bytes and a 32-bit count of records, little-endian. A record has 12 bytes: the
-//! letter of the call, a zero byte, a 16-bit offset and two 32-bit values.
+//! All numbers are little-endian. A trace opens with `I3TR` and, in 16 bits, how many sections it has,
+//! 1 to 64; of each section follow its start, counted from the file's first byte, and how many
+//! records it has, in 32 bits each. A record has 12 bytes: the letter of the call, a zero byte, the
+//! offset in 16 bits and two values of 32.
 
 use crate::{raw, Answer, Number, Refusal};
 

@@ -136,13 +136,13 @@ fn several_words_damaged() {
     let mut lcg = Lcg::new(21);
     let mut had = Had::default();
     for _ in 0..TRIES {
-        let mut damaged = images[lcg.below(images.len() as u32) as usize].clone();
+        let mut damaged = lcg.pick(&images);
         for _ in 0..2 + lcg.below(3) {
             let place = match lcg.below(8) {
                 0 => lcg.below(20),
                 1 => 20 + lcg.below(6),
                 2 => 168 + lcg.below(4),
-                3 => lcg.below(200),
+                3 => lcg.below(WORDS as u32),
                 _ => 26 + lcg.below(14),
             } as usize;
             damaged[place] = match lcg.below(6) {

@@ -1,5 +1,7 @@
-//! When an image is that of a well-formed bank, said once more and by itself: the sentence "Well
-//! formed" of paper 01, clause by clause, and that of 02 §3 on bursts.
+//! When image and tables, in one row, are those of a well-formed bank, said once more and by itself:
+//! the rules `formed` of docs/RULES.md, each by a function.
+
+use crate::images::WORDS;
 
 /// Least capacities, in the order CMD, CMDR, SDO, SDI, IBI.
 const LEAST: [u32; 5] = [2, 1, 1, 2, 1];
@@ -44,7 +46,7 @@ const PRIVATE: u32 = 0;
 const BROADCAST: u32 = 2;
 
 pub fn well_formed(words: &[u32]) -> bool {
-    if words.len() != 200 {
+    if words.len() != WORDS {
         return false;
     }
     let image = Image {
@@ -77,7 +79,7 @@ pub fn well_formed(words: &[u32]) -> bool {
 }
 
 impl Image<'_> {
-    /// "set-up numbers in range; each head below and each level at most its capacity"
+    /// `formed.set-up`: what a set-up allows, and no queue beyond its capacity.
     fn queues_in_range(&self) -> bool {
         let ring_ok = |(ring, least): (&[u32; 4], u32)| {
             let [capacity, watermark, head, level] = *ring;
@@ -89,7 +91,7 @@ impl Image<'_> {
         self.rings.iter().zip(LEAST).all(ring_ok) && self.id <= 255
     }
 
-    /// "every stored field within its bits"
+    /// `formed.fields`: no field has a bit that it does not store.
     fn fields_in_their_bits(&self) -> bool {
         let transfer = &self.transfer;
         let one_bit = [self.held, transfer.header, transfer.attached];
@@ -105,9 +107,8 @@ impl Image<'_> {
             && self.flags.iter().all(|flags| *flags <= 7)
     }
 
-    /// "at most one open transfer, with bytes moved at most the commanded length (0 for ENTDAA and for
-    /// an unattached device) and between 0 and 3 bytes gathered or left as that count says". The
-    /// bytes stand at the top of the part word, the rest of it is 0; without a transfer all is 0.
+    /// `formed.moved`, `formed.part`: no more moved than the transfer allows, and the part word has
+    /// the bytes that the count leaves in it, at its top, with 0 below. Without a transfer all is 0.
     fn transfer_as_counted(&self) -> bool {
         let transfer = &self.transfer;
         if self.burst != 0 {
@@ -124,9 +125,8 @@ impl Image<'_> {
         }
     }
 
-    /// 02 §3: "an open burst pass 8, 28 and 29 and stand at one of its commands, with that one's
-    /// transfer open and its counts as that place says, a read's up to 4 bytes all gathered". A
-    /// write's bytes stand in the offload data.
+    /// `formed.burst`: the trigger's tests hold, and the open transfer is the one of the command at
+    /// hand. A read has gathered all that it moved; a write's bytes stand in the offload data.
     fn burst_as_placed(&self) -> bool {
         let offload_mode = bits(self.ops, 0, 0) == 1;
         let commands = &self.commands[..bits(self.ops, 4, 1) as usize];
@@ -147,8 +147,7 @@ impl Image<'_> {
             && transfer.holds(if reads { transfer.moved } else { 0 })
     }
 
-    /// "in reset all heads, levels, syncs and pending bits 0 and no transfer open"; of a burst "in reset
-    /// none is open"
+    /// `formed.reset`: a held bank is as a reset leaves it, with neither transfer nor burst.
     fn quiet_in_reset(&self) -> bool {
         let empty = |ring: &[u32; 4]| ring[2] == 0 && ring[3] == 0;
         self.held == 0

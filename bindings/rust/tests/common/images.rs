@@ -143,8 +143,11 @@ pub fn good_images() -> Vec<Vec<u32>> {
         .map(|calls| row(after(&[&[release, attach], &calls[..]].concat()).kept()))
         .collect();
     images.push(row(after(&[]).kept()));
-    images.push(row(
-        after(&[attach, write(IRQ_MASK, 0xff), write(OPS, 0x7f)]).kept(),
-    ));
+    images.push(row(after(&[
+        attach,
+        write(IRQ_MASK, 0xff),
+        write(OPS, 0x7f),
+    ])
+    .kept()));
     images
 }

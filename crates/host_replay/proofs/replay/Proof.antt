@@ -58,12 +58,18 @@ same-length-3 c = search needs
 
 returns : tie.Need-returns
 returns c =
-    let a = c .before .before .before .before .before .before .before .before .before .before .before .before .before .before .before .before .before .before .before .before .before .before .before .before .before .before .before .before .before .before .before .before .before .args in
+    let played = c .before .before .before .before .before .before .before in
+    let heads = played .before .before .before .before .before in
+    let state = heads .before .before .before in
+    let encoded = state .before .before in
+    let sized = encoded .before .before in
+    let copied = sized .before .before .before .before .before .before .before .before in
+    let a = copied .before .before .before .before .before .before .args in
     let k = kept (a .image .now) (a .flags .now) (a .commands .now) (a .payloads .now) in
     let t = not-true _ (c .before .before .before .before .if1 .taken) in
-    let n = not-said k _ _ _ (c .before .before .before .before .before .before .before .before .before .before .before .before .before .before .before .before .before .before .before .is-sized .ensures) (c .before .before .before .before .before .before .before .before .before .before .before .before .before .before .before .before .before .is-encoded .ensures) (c .before .before .before .before .before .before .before .before .before .before .before .before .before .before .before .before .before .before .before .before .before .before .before .before .before .before .before .words-of .ensures .1) t in
-    let w = c .before .before .before .before .before .before .before .before .before .before .before .before .heads-if .ensures .1 t (c .before .before .before .before .before .before .before .before .before .before .before .before .before .before .before .state-in .result) (a .flags .now) (a .commands .now) (a .payloads .now) in
-    let u = unformed (a .file .now) (a .i) (a .limit) k (a .store .now) (a .told .now) n _ w _ (c .before .before .before .before .before .before .before .on-parts .ensures) in
+    let n = not-said k _ _ _ (sized .is-sized .ensures) (encoded .is-encoded .ensures) (copied .words-of .ensures .1) t in
+    let w = heads .heads-if .ensures .1 t (state .state-in .result) (a .flags .now) (a .commands .now) (a .payloads .now) in
+    let u = unformed (a .file .now) (a .i) (a .limit) k (a .store .now) (a .told .now) n _ w _ (played .on-parts .ensures) in
     let v = c .before .before .tell .ensures in (
       v .0 ∙ ap (λ (h : Replayed). h .number) (u .1),
       ap (λ (b : Bank). kept (a .image .now) (b .flags) (b .commands) (b .payloads)) (u .0) ∙ ap (λ (h : Replayed). h .kept) (u .1),
@@ -73,9 +79,13 @@ returns c =
 
 encode-requires : tie.Need-encode-requires
 encode-requires c κs =
-    let a = c .before .before .before .before .before .before .before .before .before .before .before .before .before .before .before .before .before .before .before .before .before .before .before .before .before .before .before .before .before .before .args in
+    let played = c .before .before .before .before in
+    let encoded = played .before .before .before .before .before .before .before .before .before .before in
+    let sized = encoded .before .before in
+    let copied = sized .before .before .before .before .before .before .before .before in
+    let a = copied .before .before .before .before .before .before .args in
     let k = kept (a .image .now) (a .flags .now) (a .commands .now) (a .payloads .now) in
-    long k _ _ _ (c .before .before .before .before .before .before .before .before .before .before .before .before .before .before .before .before .is-sized .ensures) (c .before .before .before .before .before .before .before .before .before .before .before .before .before .before .is-encoded .ensures) (c .before .before .before .before .before .before .before .before .before .before .before .before .before .before .before .before .before .before .before .before .before .before .before .before .words-of .ensures .1) (not-false _ (c .before .if1 .left))
+    long k _ _ _ (sized .is-sized .ensures) (encoded .is-encoded .ensures) (copied .words-of .ensures .1) (not-false _ (c .before .if1 .left))
 
 tell-requires-2 : tie.Need-tell-requires-2
 tell-requires-2 c κs = search needs
@@ -91,15 +101,23 @@ same-length-6 c = search needs
 
 returns-2 : tie.Need-returns-2
 returns-2 c =
-    let a = c .before .before .before .before .before .before .before .before .before .before .before .before .before .before .before .before .before .before .before .before .before .before .before .before .before .before .before .before .before .before .before .before .before .before .before .before .before .args in
+    let played = c .before .before .before .before .before .before .before .before .before .before .before in
+    let heads = played .before .before .before .before .before in
+    let state = heads .before .before .before in
+    let encoded = state .before .before in
+    let sized = encoded .before .before in
+    let copied = sized .before .before .before .before .before .before .before .before in
+    let a = copied .before .before .before .before .before .before .args in
     let k = kept (a .image .now) (a .flags .now) (a .commands .now) (a .payloads .now) in
     let t = not-false _ (c .before .before .before .before .before .before .before .before .if1 .left) in
-    let q = c .before .before .before .before .before .before .before .before .before .before .before .before .before .before .before .before .before .before .before .before .before .before .before .before .before .before .before .before .before .before .before .words-of .ensures .1 (long k _ _ _ (c .before .before .before .before .before .before .before .before .before .before .before .before .before .before .before .before .before .before .before .before .before .before .before .is-sized .ensures) (c .before .before .before .before .before .before .before .before .before .before .before .before .before .before .before .before .before .before .before .before .before .is-encoded .ensures) (c .before .before .before .before .before .before .before .before .before .before .before .before .before .before .before .before .before .before .before .before .before .before .before .before .before .before .before .before .before .before .before .words-of .ensures .1) t) in
-    let b = said-by-parts k _ _ (c .before .before .before .before .before .before .before .before .before .before .before .before .before .before .before .before .before .before .before .state-in .ensures ∙ ap stateIn q) (c .before .before .before .before .before .before .before .before .before .before .before .before .before .before .before .before .heads-if .ensures .0 t ∙ c .before .before .before .before .before .before .before .before .before .before .before .before .before .before .before .before .before .heads-in .ensures ∙ ap headsIn q) in
-    let y = c .before .before .before .before .before .before .before .before .before .before .before .on-parts in
+    let q = copied .words-of .ensures .1 (long k _ _ _ (sized .is-sized .ensures) (encoded .is-encoded .ensures) (copied .words-of .ensures .1) t) in
+    let is-state = state .state-in .ensures ∙ ap stateIn q in
+    let are-heads = heads .heads-if .ensures .0 t ∙ heads .before .heads-in .ensures ∙ ap headsIn q in
+    let b = said-by-parts k _ _ is-state are-heads in
+    let y = played .on-parts in
     let left = bankWith (y .result .state) (y .result .heads) (tables (y .last .1 .1 .0) (y .last .1 .1 .1 .0) (y .last .1 .1 .1 .1 .0) []) in
     let r = y .ensures ∙ ap (λ (x : Bank). replayOf (a .file .now) (a .i) (a .limit) (controller x (a .store .now) [])) b in
-    let e = said (a .file .now) (a .i) (a .limit) k (a .store .now) (a .told .now) (is-sized k _ _ _ (c .before .before .before .before .before .before .before .before .before .before .before .before .before .before .before .before .before .before .before .before .before .before .before .is-sized .ensures) (c .before .before .before .before .before .before .before .before .before .before .before .before .before .before .before .before .before .before .before .before .before .is-encoded .ensures) (c .before .before .before .before .before .before .before .before .before .before .before .before .before .before .before .before .before .before .before .before .before .before .before .before .before .before .before .before .before .before .before .words-of .ensures .1) t) (is-encoded k _ _ _ (c .before .before .before .before .before .before .before .before .before .before .before .before .before .before .before .before .before .before .before .before .before .before .before .is-sized .ensures) (c .before .before .before .before .before .before .before .before .before .before .before .before .before .before .before .before .before .before .before .before .before .is-encoded .ensures) (c .before .before .before .before .before .before .before .before .before .before .before .before .before .before .before .before .before .before .before .before .before .before .before .before .before .before .before .before .before .before .before .words-of .ensures .1) t) _ r in
+    let e = said (a .file .now) (a .i) (a .limit) k (a .store .now) (a .told .now) (is-sized k _ _ _ (sized .is-sized .ensures) (encoded .is-encoded .ensures) (copied .words-of .ensures .1) t) (is-encoded k _ _ _ (sized .is-sized .ensures) (encoded .is-encoded .ensures) (copied .words-of .ensures .1) t) _ r in
     let v = c .before .before .tell2 .ensures in (
       v .0 ∙ ap (λ (h : Replayed). h .number) e,
       kept-bank _ left (c .before .before .before .before .before .before .encode .ensures) ∙ ap (λ (h : Replayed). h .kept) e,

@@ -9,7 +9,8 @@ from thymewax import Command, image as layout
 # Words of an image; a queue has four, from four times its number on.
 CAPACITY, WATERMARK, HEAD, LEVEL = range(4)
 (ID, SCRATCH, IRQ_MASK, OPS, IBI_CONFIG, SELECTED, ENABLE, RECEIPT_SYNC, INTERRUPT_SYNC, PENDING_5,
- PENDING_6, PENDING_7, PLACE, PHASE, KIND, HEADER, LENGTH, MOVED, ATTACHED, PART) = range(20, layout.IMAGE_WORDS)
+ PENDING_6, PENDING_7, PLACE, PHASE, KIND, HEADER, LENGTH, MOVED, ATTACHED,
+ PART) = range(20, layout.IMAGE_WORDS)
 QUEUES = range(0, 20, 4)
 # The tables follow: a word for each flag byte, then offload commands and data.
 FLAGS = range(layout.IMAGE_WORDS, layout.IMAGE_WORDS + layout.FLAGS)

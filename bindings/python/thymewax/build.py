@@ -2,7 +2,8 @@
 
     python3 -m thymewax.build [--archive FILE] [--output FILE]
 
-The archive is libthymewax.a in THYMEWAX_LIB_DIR, else in target/staticlib of the repository; `tools/archive` makes it. The library goes beside it. CC names the C compiler, else it is cc.
+The archive is libthymewax.a in THYMEWAX_LIB_DIR, else in target/staticlib of the repository;
+`tools/archive` makes it. The library goes beside it. CC names the C compiler, else it is cc.
 """
 
 from __future__ import annotations

@@ -1,4 +1,4 @@
-"""What is kept of a bank by names: what each word of the image holds, then the tables, a word a flag.
+"""What is kept of a bank by names: the words of the image, then the tables, a word a flag.
 
 For tools that look. What is read here is the model's own; nothing is worked out again.
 """

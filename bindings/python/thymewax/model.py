@@ -40,8 +40,9 @@ class SetUp(NamedTuple):
 
 
 class Replayed(NamedTuple):
-    """What a replay tells: its number, how many records it did, the answer of the last. True exactly where the number is 0:
-    every record was right as a record; how the calls were answered is theirs."""
+    """What a replay tells: its number, how many records it did, the answer of the last. True exactly
+    where the number is 0: every record was right as a record; how the calls were answered is
+    theirs."""
 
     number: int
     count: int
@@ -52,7 +53,8 @@ class Replayed(NamedTuple):
 
 
 class Place(NamedTuple):
-    """Where a section lies in a trace, in bytes; 0 and 0 where asking for it is refused, and then it is not true."""
+    """Where a section lies in a trace, in bytes; 0 and 0 where asking for it is refused, and then it
+    is not true."""
 
     number: int
     start: int
@@ -84,19 +86,20 @@ def _letter(letter: str | int) -> int:
 
 
 class Model:
-    """A controller: image and tables of its bank, the store of its queues, and the output that it lends to
-    bursts. `Model.set_up(...)` makes a fresh one; `Model(image, store, output)` one that goes on
-    where another was. Threads may share a model: its calls are made one at a time."""
+    """A controller: image and tables of its bank, the store of its queues, and the output that it
+    lends to bursts. `Model.set_up(...)` makes a fresh one; `Model(image, store, output)` one that
+    goes on where another was. Threads may share a model: its calls are made one at a time."""
 
     def __init__(self, image: Sequence[int], store: Sequence[int],
                  output: Sequence[int] = ()) -> None:
-        """`image` is a row as `image()` gives it, words of any number and any values: a model of words
-        that no bank has answers 21. A flag above 255, which no bank has, is kept as 255."""
+        """`image` is a row as `image()` gives it, words of any number and any values: a model of
+        words that no bank has answers 21. A flag above 255, which no bank has, is kept as 255."""
         self._library = library.load()
         row = [_word(word, 'image') for word in image]
         tables = [*row[max(len(row) - layout.TABLES, 0):], *[0] * layout.TABLES][:layout.TABLES]
         self._image = _memory(row[:max(len(row) - layout.TABLES, 0)], 'image')
-        self._flags = (ctypes.c_uint8 * layout.FLAGS)(*(min(flag, 255) for flag in tables[:layout.FLAGS]))
+        self._flags = (ctypes.c_uint8 * layout.FLAGS)(
+            *(min(flag, 255) for flag in tables[:layout.FLAGS]))
         self._commands = _memory(tables[layout.FLAGS:-layout.OFFLOAD_WORDS], 'image')
         self._payloads = _memory(tables[-layout.OFFLOAD_WORDS:], 'image')
         self._store = _memory(store, 'store')

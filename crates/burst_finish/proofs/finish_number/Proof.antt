@@ -25,8 +25,15 @@ select-requires-2 c κs = search needs
 
 returns : tie.Need-returns
 unfolding burstFinish
-returns c = λ a p o f h. let n = c .before .before .before .before .before .before in
-    rw (c .select2 .ensures, c .before .is-output-short .ensures, c .before .before .while-open .ensures, c .before .before .before .select .ensures, c .before .before .before .before .is-allowed .ensures, c .before .before .before .before .before .is-idle .ensures, short-is (n .args .st) a (n .args .commands .now) p o f (n .args .len) (n .pre) h)
+returns c = λ a p o f h.
+    let short = c .before in
+    let open-transfer = short .before in
+    let ending = open-transfer .before in
+    let ends = ending .before in
+    let idle = ends .before in
+    let n = idle .before in
+    rw (c .select2 .ensures, short .is-output-short .ensures, open-transfer .while-open .ensures, ending .select .ensures, ends .is-allowed .ensures, idle .is-idle .ensures)
+    (rw (short-is (n .args .st) a (n .args .commands .now) p o f (n .args .len) (n .pre) h))
 
 pub finish-number-spec : {M : Type 1} → statement M
 finish-number-spec =

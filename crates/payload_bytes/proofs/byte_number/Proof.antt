@@ -25,7 +25,14 @@ while-open-requires : tie.Need-while-open-requires
 while-open-requires c κs = search needs
 
 returns : tie.Need-returns
-returns c = rw (c .while-open .ensures, c .before .select3 .ensures, c .before .before .select2 .ensures, c .before .before .before .select .ensures, c .before .before .before .before .before .is-unattached .ensures, c .before .before .before .before .before .before .is-idle .ensures, c .before .before .before .before .before .before .before .transfer-of .ensures)
+returns c =
+    let apart = c .before in
+    let way = apart .before in
+    let counted = way .before in
+    let absent = counted .before .before in
+    let idle = absent .before in
+    let open-transfer = idle .before in
+    rw (c .while-open .ensures, apart .select3 .ensures, way .select2 .ensures, counted .select .ensures, absent .is-unattached .ensures, idle .is-idle .ensures, open-transfer .transfer-of .ensures)
 
 pub byte-number-spec : {M : Type 1} → statement M
 byte-number-spec =

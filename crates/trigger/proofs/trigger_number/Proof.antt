@@ -36,8 +36,17 @@ while-idle-requires c κs = search needs
 
 returns : tie.Need-returns
 unfolding trigger
-returns c = λ a p o f h. let l = c .before .before .before .before .before .before in
-    rw (c .while-idle .ensures, c .before .select4 .ensures, c .before .before .is-offload .ensures, c .before .before .before .select3 .ensures, c .before .before .before .before .select2 .ensures, c .before .before .before .before .before .select .ensures, l .is-output-short .ensures, l .before .all-carried .ensures, l .before .before .span-of .ensures .0, l .before .before .before .is-idle .ensures, h)
+returns c = λ a p o f h.
+    let mode = c .before in
+    let offload = mode .before in
+    let empty = offload .before in
+    let carried = empty .before in
+    let room = carried .before in
+    let short = room .before in
+    let runs = short .before in
+    let span = runs .before in
+    rw (c .while-idle .ensures, mode .select4 .ensures, offload .is-offload .ensures, empty .select3 .ensures, carried .select2 .ensures, room .select .ensures)
+    (rw (short .is-output-short .ensures, runs .all-carried .ensures, span .span-of .ensures .0, span .before .is-idle .ensures, h))
 
 pub trigger-number-spec : {M : Type 1} → statement M
 trigger-number-spec =

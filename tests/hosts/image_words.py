@@ -7,11 +7,10 @@ from tests.scripts.bank import QUEUES as QUEUE_NAMES
 from thymewax import Command, image as layout
 
 # Words of an image; a queue has four, from four times its number on.
-CAPACITY, WATERMARK, HEAD, LEVEL = range(4)
-(ID, SCRATCH, IRQ_MASK, OPS, IBI_CONFIG, SELECTED, ENABLE, RECEIPT_SYNC, INTERRUPT_SYNC, PENDING_5,
- PENDING_6, PENDING_7, PLACE, PHASE, KIND, HEADER, LENGTH, MOVED, ATTACHED,
- PART) = range(20, layout.IMAGE_WORDS)
-QUEUES = range(0, 20, 4)
+(CAPACITY, WATERMARK, HEAD, LEVEL, ID, SCRATCH, IRQ_MASK, OPS, IBI_CONFIG, SELECTED, ENABLE, RECEIPT_SYNC,
+ INTERRUPT_SYNC, PENDING_5, PENDING_6, PENDING_7, PLACE, PHASE, KIND, HEADER, LENGTH, MOVED, ATTACHED,
+ PART) = map(int, layout.ImageWord)
+QUEUES = range(CAPACITY, ID, 4)
 # The tables follow: a word for each flag byte, then offload commands and data.
 FLAGS = range(layout.IMAGE_WORDS, layout.IMAGE_WORDS + layout.FLAGS)
 COMMANDS = range(FLAGS.stop, FLAGS.stop + layout.OFFLOAD_WORDS)

@@ -24,7 +24,7 @@ from tests import PACKAGE, ROOT
 from tests.shared.trial import Wrong, equal, main, raises, run
 import thymewax
 from thymewax import (OFFLOAD_CMD, OFFLOAD_SDO, MEANINGS, Command, Config, Device, Interrupt, Irq,
-                      Number, Ops, Receipt, Register, Status, library, name_of)
+                      Number, Ops, Receipt, Register, Status, image, library, name_of)
 
 # The fields of words, by the names of docs/registers.svd.
 FIELDS = {
@@ -220,6 +220,15 @@ def readme():
         equal('README', code, python(code), (0, output.encode(), b''))
 
 
+def image_words():
+    """The places of an image's words, and how many there are, are those of the definition."""
+    text = (ROOT / 'crates/image_model/specs/Image.antt').read_text()
+    defined = {name.upper(): int(place) for name, place in re.findall(r'^at(\w+) = (\d+)$', text, re.MULTILINE)}
+    equal('image words', 'places', {word.name: int(word) for word in image.ImageWord}, defined)
+    size, = re.findall(r'^size = (\d+)$', text, re.MULTILINE)
+    equal('image words', 'size', image.IMAGE_WORDS, int(size))
+
+
 if __name__ == '__main__':
-    main('tables', [meanings, numbers, registers, hints, project, without_library, build, example,
+    main('tables', [image_words, meanings, numbers, registers, hints, project, without_library, build, example,
                     readme])

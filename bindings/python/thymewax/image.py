@@ -20,11 +20,42 @@ OFFLOAD_WORDS = 16
 TABLES = FLAGS + 2 * OFFLOAD_WORDS
 WORDS = IMAGE_WORDS + TABLES
 _RING_WORDS = 4
-# The place of a queue's level among its words.
-_LEVEL = 3
-# Levels, the mask, whether it is held, pending bits, the burst, the transfer.
-_MOVING = operator.itemgetter(*range(_LEVEL, 20, _RING_WORDS), 22, 26, *range(29, 39))
 _PENDING = (Irq.CMDR_PENDING, Irq.IBI_PENDING, Irq.DAA_PENDING)
+
+
+class ImageWord(IntEnum):
+    """Where a word lies in an image, by the names of its definition. The first four are those of
+    the first queue; the other queues follow, four words each."""
+
+    CAPS = 0
+    MARKS = 1
+    HEADS = 2
+    LEVELS = 3
+    ID = 20
+    SCRATCH = 21
+    MASK = 22
+    OPS = 23
+    CONFIG = 24
+    SELECTED = 25
+    HELD = 26
+    SYNC = 27
+    IBISYNC = 28
+    CMDRPENDING = 29
+    IBIPENDING = 30
+    DAAPENDING = 31
+    BURST = 32
+    STAGE = 33
+    KIND = 34
+    HEADER = 35
+    LENGTH = 36
+    MOVED = 37
+    ATTACHED = 38
+    PART = 39
+
+
+# Levels, the mask, whether it is held, pending bits, the burst, the transfer but its part word.
+_MOVING = operator.itemgetter(*range(ImageWord.LEVELS, ImageWord.ID, _RING_WORDS), ImageWord.MASK, ImageWord.HELD,
+                              *range(ImageWord.CMDRPENDING, ImageWord.PART))
 
 
 class Phase(IntEnum):
@@ -97,7 +128,7 @@ class Image(tuple[int, ...]):
 
     @property
     def levels(self) -> Levels:
-        return Levels(*self[_LEVEL:_RING_WORDS * len(Rings._fields):_RING_WORDS])
+        return Levels(*self[ImageWord.LEVELS:_RING_WORDS * len(Rings._fields):_RING_WORDS])
 
     @property
     def moving(self) -> tuple[int, ...]:
@@ -108,65 +139,66 @@ class Image(tuple[int, ...]):
 
     @property
     def device_id(self) -> int:
-        return self[20]
+        return self[ImageWord.ID]
 
     @property
     def scratch(self) -> int:
-        return self[21]
+        return self[ImageWord.SCRATCH]
 
     @property
     def irq_mask(self) -> Irq:
-        return Irq(self[22])
+        return Irq(self[ImageWord.MASK])
 
     @property
     def ops(self) -> int:
         """Bits 6:0 of OPS."""
-        return self[23]
+        return self[ImageWord.OPS]
 
     @property
     def ibi_config(self) -> int:
-        return self[24]
+        return self[ImageWord.CONFIG]
 
     @property
     def selected(self) -> int:
         """The device address that DEV_CHAR selects."""
-        return self[25]
+        return self[ImageWord.SELECTED]
 
     @property
     def held(self) -> bool:
         """Whether the bank is held in reset."""
-        return bool(self[26])
+        return bool(self[ImageWord.HELD])
 
     @property
     def receipt_sync(self) -> int:
-        return self[27]
+        return self[ImageWord.SYNC]
 
     @property
     def interrupt_sync(self) -> int:
-        return self[28]
+        return self[ImageWord.IBISYNC]
 
     @property
     def pending(self) -> Irq:
         """Those of the pending bits 5 to 7 that are set."""
         bits = Irq(0)
-        for bit, word in zip(_PENDING, self[29:32]):
+        for bit, word in zip(_PENDING, self[ImageWord.CMDRPENDING:ImageWord.BURST]):
             bits |= bit if word else Irq(0)
         return bits
 
     @property
     def burst_place(self) -> int | None:
         """The place of the open burst's command at hand; None where no burst is open."""
-        return self[32] - 1 if self[32] else None
+        place = self[ImageWord.BURST]
+        return place - 1 if place else None
 
     @property
     def transfer(self) -> Transfer:
-        phase, kind, header, length, moved, attached, part = self[33:40]
+        phase, kind, header, length, moved, attached, part = self[ImageWord.STAGE:IMAGE_WORDS]
         return Transfer(Phase(phase), Kind(kind), bool(header), length, moved, bool(attached), part)
 
     @property
     def device_flags(self) -> tuple[int, ...]:
         """The stored flags of the 128 devices."""
-        return self[40:168]
+        return self[IMAGE_WORDS:IMAGE_WORDS + FLAGS]
 
     def device(self, address: int) -> Device:
         """A device with its stored flags."""
@@ -174,11 +206,11 @@ class Image(tuple[int, ...]):
 
     @property
     def offload_commands(self) -> tuple[int, ...]:
-        return self[168:184]
+        return self[WORDS - 2 * OFFLOAD_WORDS:WORDS - OFFLOAD_WORDS]
 
     @property
     def offload_data(self) -> tuple[int, ...]:
-        return self[184:200]
+        return self[WORDS - OFFLOAD_WORDS:]
 
     def queue(self, name: str, store: Sequence[int]) -> tuple[int, ...]:
         """The words of a queue (`cmd`, `cmdr`, `sdo`, `sdi`, `ibi`) in order, out of the store."""

@@ -7,6 +7,7 @@ use lib.Dec.{leb, ltb, eqb}
 use lib.ListN.{getD}
 use Rattle.ring.specs.declared.Ring.{Ring}
 use Rattle.bank.specs.declared.Regs.{Regs}
+use Rattle.bank.specs.declared.Latest.{Latest}
 use Rattle.bank.specs.declared.Control.{Control}
 use Rattle.bank.specs.declared.Transfer.{Transfer}
 use Rattle.bank.specs.declared.Phase.{Phase}
@@ -49,15 +50,18 @@ burstOk c g p ws =
 unfoldable pub openOk : Control → Regs → Phase → List ℕ → Bool
 openOk c g p ws = cond (bursting c) (burstOk c g p ws) (phaseOk p)
 
--- `formed.reset`, by parts: queues, control bits, and no transfer
+-- `formed.reset`, by parts: queues, control bits with the words last read, and no transfer
 abbrev pub ringClear : Ring → Bool
 ringClear r = eqb (r .head) 0 && eqb (r .level .0) 0
 
 unfoldable pub queuesClear : Queues → Bool
 queuesClear q = ringClear (q .cmd) && ringClear (q .cmdr) && ringClear (q .sdo) && ringClear (q .sdi) && ringClear (q .ibi)
 
+abbrev pub latestClear : Latest → Bool
+latestClear w = eqb (w .cmdr) 0 && eqb (w .sdi) 0 && eqb (w .ibi) 0
+
 unfoldable pub controlClear : Control → Bool
-controlClear c = eqb (c .sync) 0 && eqb (c .ibisync) 0 && not (c .cmdrpending) && not (c .ibipending) && not (c .daapending) && eqb (c .burst) 0
+controlClear c = eqb (c .sync) 0 && eqb (c .ibisync) 0 && not (c .cmdrpending) && not (c .ibipending) && not (c .daapending) && (eqb (c .burst) 0 && latestClear (c .latest))
 
 unfoldable pub resetOk : Control → Phase → Queues → Bool
 resetOk c p q = not (c .held) || (queuesClear q && controlClear c && idle p)

@@ -8,6 +8,7 @@ use Rattle.number.specs.Names as number
 use Rattle.ring.specs.Units.{words}
 use Rattle.bank.specs.declared.Counts.{Counts}
 use Rattle.bank.specs.declared.Heads.{Heads}
+use Rattle.bank.specs.declared.Latest.{Latest}
 use Rattle.bank.specs.declared.Control.{Control}
 use Rattle.bank.specs.declared.Phase.the-variants.{Idle}
 use Rattle.bank.specs.declared.Bank.{Bank}
@@ -38,9 +39,13 @@ zeros = record { cmd = 0; cmdr = 0; sdo = 0; sdi = 0; ibi = 0 }
 abbrev pub noHeads : Heads
 noHeads = record { cmd = 0; cmdr = 0; sdo = 0; sdi = 0; ibi = 0 }
 
--- control bits with syncs and pending bits 0 and no burst open
+-- no word was read yet from CMDR, SDI or IBI
+abbrev pub noneRead : Latest
+noneRead = record { cmdr = 0; sdi = 0; ibi = 0 }
+
+-- control bits with syncs and pending bits 0, no burst open and no word read
 abbrev pub cleared : Bool → Control
-cleared held = record { held = held; sync = 0; ibisync = 0; cmdrpending = false; ibipending = false; daapending = false; burst = 0 }
+cleared held = record { held = held; sync = 0; ibisync = 0; cmdrpending = false; ibipending = false; daapending = false; burst = 0; latest = noneRead }
 
 -- a bank in which all is 0 but capacities, watermarks, ENABLE and ID
 abbrev pub bankOf : Sizes → Sizes → Bool → ℕ → Bank

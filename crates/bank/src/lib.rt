@@ -40,9 +40,16 @@ pub struct Regs {
     pub marks: Counts,
 }
 
+// The words last read from the queues that the driver reads, since the release; 0 where none was (`take.empty`).
+pub struct Latest {
+    pub cmdr: u32,
+    pub sdi: u32,
+    pub ibi: u32,
+}
+
 // What a reset sets besides the queues and the transfer (`enable.reset`): the ENABLE bit, the sync of receipts and that
-// of interrupts, the pending bits 5, 6 and 7, and where an offload burst stands (0 where none is open, else 1 more than
-// the place of the command whose transfer is open).
+// of interrupts, the pending bits 5, 6 and 7, where an offload burst stands (0 where none is open, else 1 more than
+// the place of the command whose transfer is open), and the words last read.
 pub struct Control {
     pub held: bool,
     pub sync: u8,
@@ -51,6 +58,7 @@ pub struct Control {
     pub ibipending: bool,
     pub daapending: bool,
     pub burst: u8,
+    pub latest: Latest,
 }
 
 pub enum Kind {
@@ -142,10 +150,15 @@ pub fn marks_ok(marks: Counts, caps: Counts) -> bool
         & (marks.ibi.0 <= caps.ibi.0)
 }
 
-// A control with its syncs and pending bits 0 and no burst open.
+// A control with its syncs and pending bits 0, no burst open and no word read.
 pub fn cleared_control(held: bool) -> Control
     ensures { λ r. ⌜ r ≡ cleared held ⌝ }
 {
+    let latest = Latest {
+        cmdr: 0,
+        sdi: 0,
+        ibi: 0,
+    };
     Control {
         held: held,
         sync: 0,
@@ -154,6 +167,7 @@ pub fn cleared_control(held: bool) -> Control
         ibipending: false,
         daapending: false,
         burst: 0,
+        latest: latest,
     }
 }
 
@@ -229,6 +243,12 @@ fn regs_by_field(g: Regs) -> Regs
 fn control_by_field(c: Control) -> Control
     ensures { λ r. ⌜ r ≡ c ⌝ }
 {
+    let w = c.latest;
+    let latest = Latest {
+        cmdr: w.cmdr,
+        sdi: w.sdi,
+        ibi: w.ibi,
+    };
     Control {
         held: c.held,
         sync: c.sync,
@@ -237,6 +257,7 @@ fn control_by_field(c: Control) -> Control
         ibipending: c.ibipending,
         daapending: c.daapending,
         burst: c.burst,
+        latest: latest,
     }
 }
 

@@ -19,9 +19,9 @@ none-of : (d : Decision) → refusals d ≡ true → number d ≡ 0 → first d 
 none-of (does x) r e = refl
 none-of (true ⇒ n ∣ d) r e = absurd (false≢true (sym (bad n e) ∙ r))
   where
-    bad : (n : ℕ) → n ≡ 0 → (not (eqb n 0) && not (eqb n 19) && refusals d) ≡ false
+    bad : (n : ℕ) → n ≡ 0 → (not (eqb n 0) && not (eqb n 3) && not (eqb n 19) && refusals d) ≡ false
     bad n z = rw z
-none-of (false ⇒ n ∣ d) r e = none-of d (and-true (not (eqb n 0) && not (eqb n 19)) (refusals d) r .1) e
+none-of (false ⇒ n ∣ d) r e = none-of d (and-true (not (eqb n 0) && not (eqb n 3) && not (eqb n 19)) (refusals d) r .1) e
 
 some-of : (d : Decision) (n : ℕ) → (n ≡ 0 → ⊥) → number d ≡ n → first d ≡ some n
 some-of (does x) n z e = absurd (z (sym e))

@@ -1,5 +1,5 @@
-// A part of well formed: in reset the queues are empty, no transfer and no burst is open, and syncs and pending bits
-// are 0 (`formed.reset`).
+// A part of well formed: in reset the queues are empty, no transfer and no burst is open, and syncs, pending bits and
+// the words last read are 0 (`formed.reset`).
 ghost use mathlib.Core.Path.{_≡_};
 ghost use Rattle.bank.specs.declared.Counts.{Counts};
 ghost use Rattle.bank.specs.Queues.{queuesOf};
@@ -21,16 +21,17 @@ fn queues_clear(l: Counts, h: Heads) -> bool
         & ((h.ibi == 0) & (l.ibi.0 == 0))
 }
 
-// Whether syncs and pending bits are 0 and no burst is open.
+// Whether syncs, pending bits and the words last read are 0 and no burst is open.
 fn control_clear(c: Control) -> bool
     ensures { λ b. ⌜ b ≡ controlClear c ⌝ }
 {
+    let w = c.latest;
     (c.sync == 0)
         & (c.ibisync == 0)
         & !c.cmdrpending
         & !c.ibipending
         & !c.daapending
-        & (c.burst == 0)
+        & ((c.burst == 0) & ((w.cmdr == 0) & (w.sdi == 0) & (w.ibi == 0)))
 }
 
 // Whether a bank is released, or is as `formed.reset` asks. Out of reset nothing is looked at: a branch, since few calls meet a bank in reset.

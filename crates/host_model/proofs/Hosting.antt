@@ -21,13 +21,13 @@ use Rattle.host_model.specs.Host.{setUpIn, hosted, refusal, madeIn, step
 
 -- ── What is kept of no well-formed bank ───────────────────────────────────────────────────────────────────────
 -- an image of its length makes the whole sized where the tables are
-pub sized-is : (k : Kept) → length (k .image) ≡ 40 → length (k .flags) ≡ 128 → length (k .commands) ≡ 16 → length (k .payloads) ≡ 16 → sized k ≡ true
-sized-is k n f c p = rw (eq-eqb (length (k .image)) 40 n, eq-eqb (length (k .flags)) 128 f, eq-eqb (length (k .commands)) 16 c, eq-eqb (length (k .payloads)) 16 p)
+pub sized-is : (k : Kept) → length (k .image) ≡ 43 → length (k .flags) ≡ 128 → length (k .commands) ≡ 16 → length (k .payloads) ≡ 16 → sized k ≡ true
+sized-is k n f c p = rw (eq-eqb (length (k .image)) 43 n, eq-eqb (length (k .flags)) 128 f, eq-eqb (length (k .commands)) 16 c, eq-eqb (length (k .payloads)) 16 p)
 
-pub unsized : (k : Kept) → (length (k .image) ≡ 40 → ⊥) → sized k ≡ false
-unsized k n = rw (ne-eqb (length (k .image)) 40 n)
+pub unsized : (k : Kept) → (length (k .image) ≡ 43 → ⊥) → sized k ≡ false
+unsized k n = rw (ne-eqb (length (k .image)) 43 n)
 
-pub wrong-size : (k : Kept) → (length (k .image) ≡ 40 → ⊥) → isKept k ≡ false
+pub wrong-size : (k : Kept) → (length (k .image) ≡ 43 → ⊥) → isKept k ≡ false
 unfolding isKept
 wrong-size k n = rw (unsized k n) refl
 

@@ -30,7 +30,7 @@ pub fn refused(number: u32) -> u64
 pub fn is_sized(image: &[u32], flags: &[u8], commands: &[u32], payloads: &[u32]) -> bool
     ensures { λ b. ⌜ b ≡ sized (kept (now (image .entry)) (now (flags .entry)) (now (commands .entry)) (now (payloads .entry))) ⌝ }
 {
-    (image.len() == 40) & ((flags.len() == 128) & ((commands.len() == 16) & (payloads.len() == 16)))
+    (image.len() == 43) & ((flags.len() == 128) & ((commands.len() == 16) & (payloads.len() == 16)))
 }
 
 // Whether numbers fit a record, and whether they are the trigger's.

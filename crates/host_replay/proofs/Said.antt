@@ -17,11 +17,11 @@ unkept : (k : Kept) → sized k ≡ false → isKept k ≡ false
 unfolding isKept
 unkept k s = rw s refl
 
-module _ (k : Kept) (ws : List ℕ) (z e : Bool) (f : z ≡ sized k) (g : e ≡ encoded ws) (w : length (k .image) ≡ 40 → ws ≡ k .image) where
-  pub long : (z && e) ≡ true → length (k .image) ≡ 40
+module _ (k : Kept) (ws : List ℕ) (z e : Bool) (f : z ≡ sized k) (g : e ≡ encoded ws) (w : length (k .image) ≡ 43 → ws ≡ k .image) where
+  pub long : (z && e) ≡ true → length (k .image) ≡ 43
   long t =
       let s = sym f ∙ and-true z e t .0 in
-      eqb-true (length (k .image)) 40 (and-true (eqb (length (k .image)) 40) (eqb (length (k .flags)) 128 && (eqb (length (k .commands)) 16 && eqb (length (k .payloads)) 16)) s .0)
+      eqb-true (length (k .image)) 43 (and-true (eqb (length (k .image)) 43) (eqb (length (k .flags)) 128 && (eqb (length (k .commands)) 16 && eqb (length (k .payloads)) 16)) s .0)
 
   pub is-sized : (z && e) ≡ true → sized k ≡ true
   is-sized t = sym f ∙ and-true z e t .0
@@ -35,7 +35,7 @@ module _ (k : Kept) (ws : List ℕ) (z e : Bool) (f : z ≡ sized k) (g : e ≡ 
       go : (b : Bool) → sized k ≡ b → isKept k ≡ false
       go false s = unkept k s
       go true s =
-          let n = eqb-true (length (k .image)) 40 (and-true (eqb (length (k .image)) 40) (eqb (length (k .flags)) 128 && (eqb (length (k .commands)) 16 && eqb (length (k .payloads)) 16)) s .0) in
+          let n = eqb-true (length (k .image)) 43 (and-true (eqb (length (k .image)) 43) (eqb (length (k .flags)) 128 && (eqb (length (k .commands)) 16 && eqb (length (k .payloads)) 16)) s .0) in
           let y : (true && e) ≡ false = ap (λ (b : Bool). b && e) (sym (f ∙ s)) ∙ t in
           not-encoded k (ap encoded (sym (w n)) ∙ sym g ∙ y)
 

@@ -18,14 +18,14 @@ use bank::State;
 use replayed::Reached;
 
 // The words of an image, or zeros for one of another length.
-fn words_of(image: &[u32]) -> [u32; 40]
-    ensures { λ ws. ⌜ (length ws ≡ 40) × (length (now (image .entry)) ≡ 40 → ws ≡ now (image .entry)) ⌝ }
+fn words_of(image: &[u32]) -> [u32; 43]
+    ensures { λ ws. ⌜ (length ws ≡ 43) × (length (now (image .entry)) ≡ 43 → ws ≡ now (image .entry)) ⌝ }
 {
-    let mut ws = [0u32; 40];
-    if image.len() != 40 {
+    let mut ws = [0u32; 43];
+    if image.len() != 43 {
         return ws;
     }
-    for i in 0..40 {
+    for i in 0..43 {
         ws[i] = image[i];
     }
     ws

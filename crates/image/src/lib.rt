@@ -12,7 +12,7 @@ ghost use Rattle.bank.specs.Bits.{wordIf};
 ghost use Rattle.image_model.specs.Image.{size, phaseWords, kindIn, phaseIn, same, encoded};
 
 // How many words an image has.
-pub const SIZE: usize = 40;
+pub const SIZE: usize = 43;
 
 fn is_byte(image: &[u32], at: usize) -> bool
     requires { ⌜ at + 1 ≤ length (now image) ⌝ }

@@ -3,11 +3,12 @@ ghost use mathlib.Core.Path.{_≡_};
 ghost use Prim.Native.Nat.{_+_};
 ghost use Prim.Native.Nat.{_≤_};
 ghost use lib.ListN.{length};
-ghost use Rattle.image_model.specs.Image.{size, countsIn, headsIn, byteIn, bitIn, kindIn, transferIn, phaseIn, regsIn, controlIn, stateIn};
+ghost use Rattle.image_model.specs.Image.{size, countsIn, headsIn, byteIn, bitIn, kindIn, transferIn, phaseIn, regsIn, latestIn, controlIn, stateIn};
 use bank::Control;
 use bank::Counts;
 use bank::Heads;
 use bank::Kind;
+use bank::Latest;
 use bank::Phase;
 use bank::Regs;
 use bank::State;
@@ -94,10 +95,22 @@ fn regs_in(image: &[u32]) -> Regs
     }
 }
 
+fn latest_in(image: &[u32]) -> Latest
+    requires { ⌜ length (now image) ≡ size ⌝ }
+    ensures { λ w. ⌜ w ≡ latestIn (now (image .entry)) ⌝ }
+{
+    Latest {
+        cmdr: image[33],
+        sdi: image[34],
+        ibi: image[35],
+    }
+}
+
 fn control_in(image: &[u32]) -> Control
     requires { ⌜ length (now image) ≡ size ⌝ }
     ensures { λ c. ⌜ c ≡ controlIn (now (image .entry)) ⌝ }
 {
+    let latest = latest_in(image);
     Control {
         held: bit_in(image, 26),
         sync: byte_in(image, 27),
@@ -106,6 +119,7 @@ fn control_in(image: &[u32]) -> Control
         ibipending: bit_in(image, 30),
         daapending: bit_in(image, 31),
         burst: byte_in(image, 32),
+        latest: latest,
     }
 }
 
@@ -113,14 +127,14 @@ fn transfer_in(image: &[u32]) -> Transfer
     requires { ⌜ length (now image) ≡ size ⌝ }
     ensures { λ t. ⌜ t ≡ transferIn (now (image .entry)) ⌝ }
 {
-    let k = kind_in(image[34]);
+    let k = kind_in(image[37]);
     Transfer {
         kind: k,
-        header: bit_in(image, 35),
-        length: Bytes(image[36]),
-        moved: Bytes(image[37]),
-        attached: bit_in(image, 38),
-        part: image[39],
+        header: bit_in(image, 38),
+        length: Bytes(image[39]),
+        moved: Bytes(image[40]),
+        attached: bit_in(image, 41),
+        part: image[42],
     }
 }
 
@@ -133,7 +147,7 @@ pub fn state_in(image: &[u32]) -> State
     let g = regs_in(image);
     let c = control_in(image);
     let t = transfer_in(image);
-    let p = phase_in(image[33], t);
+    let p = phase_in(image[36], t);
     State {
         caps: k,
         levels: l,

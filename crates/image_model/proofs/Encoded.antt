@@ -157,8 +157,8 @@ module _ (ws : List ℕ) where
       byte 20 && (byte 22 && (byte 23 && (byte 24 && (byte 25 && (bit 26 && (byte 27 && (byte 28 && (bit 29 && (bit 30 && (bit 31 && (byte 32
       && phase-test (w 34) (w 35) (w 36) (w 37) (w 38) (w 39) (w 33))))))))))))
 
-  pub encoded-by-fields : length ws ≡ 40 → field-tests ≡ encoded ws
+  pub encoded-by-fields : length ws ≡ 43 → field-tests ≡ encoded ws
   unfolding encoded
   encoded-by-fields n =
       sym (simp itself refl)
-      ∙ ap (λ (l : List ℕ). same l (imageOf (stateIn ws) (headsIn ws))) (from-is 40 0 ws (sym n))
+      ∙ ap (λ (l : List ℕ). same l (imageOf (stateIn ws) (headsIn ws))) (from-is 43 0 ws (sym n))

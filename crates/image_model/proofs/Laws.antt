@@ -99,7 +99,7 @@ typed-in : (k : Kept) → sized k ≡ true → inTypes (bankIn k) ≡ true
 unfolding bankIn
 typed-in k z =
     let ws = k .image in
-    let y = and-true (eqb (length ws) 40) (eqb (length (k .flags)) 128 && (eqb (length (k .commands)) 16 && eqb (length (k .payloads)) 16)) z in
+    let y = and-true (eqb (length ws) 43) (eqb (length (k .flags)) 128 && (eqb (length (k .commands)) 16 && eqb (length (k .payloads)) 16)) z in
     let x = and-true (eqb (length (k .flags)) 128) (eqb (length (k .commands)) 16 && eqb (length (k .payloads)) 16) (y .1) in
     let v = and-true (eqb (length (k .commands)) 16) (eqb (length (k .payloads)) 16) (x .1) in
     typed-is (bankIn k)

@@ -10,6 +10,7 @@ use Rattle.ring.specs.Units.{bytes, words}
 use Rattle.bank.specs.declared.Counts.{Counts}
 use Rattle.bank.specs.declared.Heads.{Heads}
 use Rattle.bank.specs.declared.Regs.{Regs}
+use Rattle.bank.specs.declared.Latest.{Latest}
 use Rattle.bank.specs.declared.Control.{Control}
 use Rattle.bank.specs.declared.Kind.{Kind}
 use Rattle.bank.specs.declared.Kind.the-variants.{Private, Direct, Broadcast}
@@ -77,31 +78,40 @@ atDaapending = 31
 abbrev pub atBurst : ℕ
 atBurst = 32
 
+abbrev pub atCmdrlatest : ℕ
+atCmdrlatest = 33
+
+abbrev pub atSdilatest : ℕ
+atSdilatest = 34
+
+abbrev pub atIbilatest : ℕ
+atIbilatest = 35
+
 -- of the phase and its transfer
 abbrev pub atStage : ℕ
-atStage = 33
+atStage = 36
 
 abbrev pub atKind : ℕ
-atKind = 34
+atKind = 37
 
 abbrev pub atHeader : ℕ
-atHeader = 35
+atHeader = 38
 
 abbrev pub atLength : ℕ
-atLength = 36
+atLength = 39
 
 abbrev pub atMoved : ℕ
-atMoved = 37
+atMoved = 40
 
 abbrev pub atAttached : ℕ
-atAttached = 38
+atAttached = 41
 
 abbrev pub atPart : ℕ
-atPart = 39
+atPart = 42
 
 -- how many words an image has
 abbrev pub size : ℕ
-size = 40
+size = 43
 
 -- ── The words of a bank ───────────────────────────────────────────────────────────────────────────────────────
 -- of a queue: capacity, watermark, head, level
@@ -114,7 +124,7 @@ regWords g = g .id ∷ g .scratch ∷ g .mask ∷ g .ops ∷ g .config ∷ g .se
 -- a flag is 1 or 0
 abbrev pub controlWords : Control → List ℕ
 controlWords c =
-    wordIf (c .held) 1 ∷ c .sync ∷ c .ibisync ∷ wordIf (c .cmdrpending) 1 ∷ wordIf (c .ibipending) 1 ∷ wordIf (c .daapending) 1 ∷ c .burst ∷ []
+    wordIf (c .held) 1 ∷ c .sync ∷ c .ibisync ∷ wordIf (c .cmdrpending) 1 ∷ wordIf (c .ibipending) 1 ∷ wordIf (c .daapending) 1 ∷ c .burst ∷ c .latest .cmdr ∷ c .latest .sdi ∷ c .latest .ibi ∷ []
 
 abbrev pub kindNumber : Kind → ℕ
 kindNumber Private = 0
@@ -172,9 +182,12 @@ phaseIn n t =
 abbrev pub regsIn : List ℕ → Regs
 regsIn ws = record { id = byteIn ws atId; scratch = getD ws atScratch 0; mask = byteIn ws atMask; ops = byteIn ws atOps; config = byteIn ws atConfig; selected = byteIn ws atSelected; marks = countsIn ws atMarks }
 
+abbrev pub latestIn : List ℕ → Latest
+latestIn ws = record { cmdr = getD ws atCmdrlatest 0; sdi = getD ws atSdilatest 0; ibi = getD ws atIbilatest 0 }
+
 abbrev pub controlIn : List ℕ → Control
 controlIn ws =
-    record { held = bitIn ws atHeld; sync = byteIn ws atSync; ibisync = byteIn ws atIbisync; cmdrpending = bitIn ws atCmdrpending; ibipending = bitIn ws atIbipending; daapending = bitIn ws atDaapending; burst = byteIn ws atBurst }
+    record { held = bitIn ws atHeld; sync = byteIn ws atSync; ibisync = byteIn ws atIbisync; cmdrpending = bitIn ws atCmdrpending; ibipending = bitIn ws atIbipending; daapending = bitIn ws atDaapending; burst = byteIn ws atBurst; latest = latestIn ws }
 
 abbrev pub stateIn : List ℕ → State
 stateIn ws = record { caps = countsIn ws atCaps; levels = countsIn ws atLevels; regs = regsIn ws; control = controlIn ws; phase = phaseIn (getD ws atStage 0) (transferIn ws) }

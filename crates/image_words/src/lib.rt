@@ -17,7 +17,7 @@ fn kind_number(k: Kind) -> u32
 }
 
 // In the order of the definition's places.
-fn state_words(s: State, h: Heads) -> [u32; 40]
+fn state_words(s: State, h: Heads) -> [u32; 43]
     ensures { λ ws. ⌜ ws ≡ imageOf s h ⌝ }
 {
     let n = s.caps;
@@ -25,6 +25,7 @@ fn state_words(s: State, h: Heads) -> [u32; 40]
     let g = s.regs;
     let m = g.marks;
     let c = s.control;
+    let w = c.latest;
     let p = s.phase;
     let t = phases::transfer_of(p);
     let k = t.kind;
@@ -62,6 +63,9 @@ fn state_words(s: State, h: Heads) -> [u32; 40]
         bank::select(c.ibipending, 1, 0),
         bank::select(c.daapending, 1, 0),
         c.burst as u32,
+        w.cmdr,
+        w.sdi,
+        w.ibi,
         phases::stage_of(p),
         kind_number(k),
         bank::select(t.header, 1, 0),
@@ -78,7 +82,7 @@ pub fn encode(s: State, h: Heads, image: &mut [u32])
     ensures { λ _. ⌜ now (image .exit) ≡ imageOf s h ⌝ }
 {
     let ws = state_words(s, h);
-    for i in 0..40 {
+    for i in 0..43 {
         image[i] = ws[i];
     }
 }

@@ -14,8 +14,8 @@ use Rattle.registers.specs.declared.Register.the-variants.{Version, Id, Scratch
 use Rattle.registers.specs.Map.{registerAt}
 use Rattle.model.specs.declared.Call.{Call}
 use Rattle.model.specs.declared.Call.the-variants.{Read, Write, Start, Send, Receive, Finish, Interrupt, Request, Take, Trigger}
-use Rattle.model.specs.View.{Cmd, Cmdr, Sdo, Sdi, Ibi}
-use Rattle.model.specs.Decision.{Decision, first, effect}
+use Rattle.model.specs.View.{Cmd, Cmdr, Sdo, Sdi, Ibi, of, empty}
+use Rattle.model.specs.Decision.{Effect, Decision, does, first, effect}
 use Rattle.model.specs.Registers.{Cell, scratch, mask, ops, ibiConfig, devChar, offloadCmd, offloadSdo, Row, absent, shows, holds, pushes, takes, enables, acknowledges, row, shown, enable, read, write}
 use Rattle.model.specs.Bursts.{decide}
 use Rattle.model.specs.Engine.{Step, outcome, step}
@@ -97,16 +97,21 @@ module _ (l : Controller) (o : List ℕ) where
   shown-same (offloadCmd i) = refl
   shown-same (offloadSdo i) = refl
 
+  -- both views have the same levels, so both reads show a word again or both take one
+  two-blind : (b : Bool) (v w v′ w′ : Effect) → Blind (does v) (does v′) → Blind (does w) (does w′) → Blind (cond b (does v) (does w)) (cond b (does v′) (does w′))
+  two-blind true v w v′ w′ f g = f
+  two-blind false v w v′ w′ f g = g
+
   read-blind : (x : Row) → Shows x → Blind (read x (viewRings l)) (read x (viewRings m))
   read-blind absent h = blind _ _ refl refl refl refl
   read-blind (shows f) h = blind _ _ refl h refl refl
   read-blind (holds c) h = blind _ _ refl (shown-same c) refl refl
   read-blind (pushes q) h = blind _ _ refl refl refl refl
-  read-blind (takes Cmd) h = blind _ _ refl refl refl refl
-  read-blind (takes Cmdr) h = blind _ _ refl refl refl refl
-  read-blind (takes Sdo) h = blind _ _ refl refl refl refl
-  read-blind (takes Sdi) h = blind _ _ refl refl refl refl
-  read-blind (takes Ibi) h = blind _ _ refl refl refl refl
+  read-blind (takes Cmd) h = two-blind (empty (of Cmd (viewRings l .queues))) _ _ _ _ (blind _ _ refl refl refl refl) (blind _ _ refl refl refl refl)
+  read-blind (takes Cmdr) h = two-blind (empty (of Cmdr (viewRings l .queues))) _ _ _ _ (blind _ _ refl refl refl refl) (blind _ _ refl refl refl refl)
+  read-blind (takes Sdo) h = two-blind (empty (of Sdo (viewRings l .queues))) _ _ _ _ (blind _ _ refl refl refl refl) (blind _ _ refl refl refl refl)
+  read-blind (takes Sdi) h = two-blind (empty (of Sdi (viewRings l .queues))) _ _ _ _ (blind _ _ refl refl refl refl) (blind _ _ refl refl refl refl)
+  read-blind (takes Ibi) h = two-blind (empty (of Ibi (viewRings l .queues))) _ _ _ _ (blind _ _ refl refl refl refl) (blind _ _ refl refl refl refl)
   read-blind enables h = blind _ _ refl refl refl refl
   read-blind acknowledges h = blind _ _ refl refl refl refl
 

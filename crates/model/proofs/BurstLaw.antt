@@ -59,7 +59,7 @@ module _ (l : Controller) (g : Log) where
 
 -- no place in a burst is left
 unbursting : (c : Control) → c .burst ≡ 0 → c ≡ burstAt 0 c
-unbursting c e = λ i. record { held = c .held; sync = c .sync; ibisync = c .ibisync; cmdrpending = c .cmdrpending; ibipending = c .ibipending; daapending = c .daapending; burst = e i }
+unbursting c e = λ i. record { held = c .held; sync = c .sync; ibisync = c .ibisync; cmdrpending = c .cmdrpending; ibipending = c .ibipending; daapending = c .daapending; burst = e i; latest = c .latest }
 
 pub burst-law : BurstLaw
 unfolding BurstLaw

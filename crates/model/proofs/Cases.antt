@@ -15,6 +15,7 @@ use Rattle.model.specs.Rings.{onRing, onStore, guardRings}
 use Rattle.model.specs.Demand.{tally}
 use Rattle.model.specs.Cases.{answered, allHold, rounds, worked, thirdByte, releasedCase, fifthWrite, cccAlone, addresses, fiveBytes, interrupt8, receipt257, table, Hold}
 use Rattle.model.specs.Removal.{refusedOnce, roundedUp, fewer, noBytes, kinds, roundTheEnd, othersKeep, assignmentKeeps, noRoomKeeps, burstKeeps, sessions, RemovalsWork}
+use Rattle.model.specs.EmptyRead.{noneYet, eachItsOwn, forgotten, pastTheWrap, EmptyReadsWork}
 use Rattle.model.specs.BurstLaw.{after}
 use Rattle.model.specs.BurstCases.{callsOf, sampling, attaching, refusing, openedBurst, shortened, BurstsWork}
 use Rattle.model.specs.Tallies.{sessionCalls, sessionTally, assignmentCalls, assignmentTally, writes, retryCalls, retryTally, droppedCalls, droppedTally, burstCalls, burstTally, WorkedTallies}
@@ -62,3 +63,7 @@ bursts-work =
 pub removals-work : RemovalsWork
 unfolding steps answered allHold refusedOnce roundedUp fewer noBytes kinds roundTheEnd othersKeep assignmentKeeps noRoomKeeps burstKeeps sessions RemovalsWork
 removals-work = refl
+
+pub empty-reads-work : EmptyReadsWork
+unfolding steps answered allHold noneYet eachItsOwn forgotten pastTheWrap EmptyReadsWork
+empty-reads-work = refl

@@ -17,7 +17,7 @@ use Rattle.bank.specs.declared.Phase.{Phase}
 use Rattle.bank.specs.Queues.{Queues, queuesIn}
 use Rattle.bank.specs.Phases.{idle, transfer}
 use Rattle.bank.specs.SetUp.{total, cleared}
-use Rattle.bank.specs.Formed.{queuesClear, controlClear, ringClear, resetOk, wellFormed}
+use Rattle.bank.specs.Formed.{queuesClear, latestClear, controlClear, ringClear, resetOk, wellFormed}
 use Rattle.bank.proofs.Bools.{and-true, three, five}
 use Rattle.bank.proofs.Laws.{Formed, formed-is, formed-of, ready}
 use Rattle.registers.specs.Map.{named, entryAt, registerAt}
@@ -27,7 +27,7 @@ use Rattle.bank.specs.Bits.{bit, bits}
 use Rattle.model.specs.View.{Queue, Cmd, Cmdr, Sdo, Sdi, Ibi, of, View}
 use Rattle.model.specs.Decision.{QueueOp, take, only, Effect, Decision, does, _⇒_∣_, first, effect}
 use Rattle.model.specs.Commands.{receiptWord}
-use Rattle.model.specs.Registers.{Cell, scratch, mask, ops, ibiConfig, devChar, offloadCmd, offloadSdo, Row, absent, shows, holds, pushes, takes, enables, acknowledges, row, shown, clears, released, burstHolds, enable, read, write}
+use Rattle.model.specs.Registers.{Cell, scratch, mask, ops, ibiConfig, devChar, offloadCmd, offloadSdo, Row, absent, shows, holds, pushes, takes, enables, acknowledges, row, shown, clears, released, noted, taken, burstHolds, enable, read, write}
 use Rattle.model.specs.Calls.{allowed, finish}
 use Rattle.model.specs.Bursts.{shortInBurst, decide}
 use Rattle.bank.specs.Bursts.{bursting}
@@ -36,7 +36,7 @@ use Rattle.model.specs.Rings.{Area, Controller, areas, wordsIn, viewRing
 use Rattle.model.specs.Lists.{Lists, viewLists, settleLists, lists}
 use Rattle.model.specs.Laws.{freshController, freshLists, sameQueue, RefusalChangesNothing, StaysWellFormed}
 use Rattle.model.specs.Driver.{heldWords, finishLacksRoom, shownOf, Within, PlainWriteTaken, ReadBack, PushesReadZero, RoomAndWords, takesWord, ReadChangesNothing, ControlAfter, ReadTook, ReadTakesOne, Clean, ReleasedClean, Outlives, ResetKeeps, reads, RefusedFinishAgain}
-use Rattle.model.proofs.Tests.{Refusal, Passed}
+use Rattle.model.proofs.Tests.{of-take, Refusal, Passed}
 use Rattle.model.proofs.Room.{by-queue}
 use Rattle.model.proofs.Formed.{read-untouched}
 use Rattle.model.proofs.Simulation.{stays-sound, same-final, stays-well-formed}
@@ -156,7 +156,7 @@ pub read-changes-nothing : ReadChangesNothing
 unfolding ReadChangesNothing
 read-changes-nothing l o h = by-outcome (λ r. r .next ≡ l) l (Read o) (λ n k. refl) (λ f z p. plain-read l (row (registerAt o)) h)
 
-take-stores-none : (l : Controller) (q : Queue) → settleRings l (effect (read (takes q) (viewRings l))) .store ≡ l .store
+take-stores-none : (l : Controller) (q : Queue) → settleRings l (taken q (viewRings l)) .store ≡ l .store
 unfolding onStore
 take-stores-none l Cmd = refl
 take-stores-none l Cmdr = refl
@@ -168,12 +168,12 @@ cleared-if : (b old : Bool) → (not b && old) ≡ cond b false old
 cleared-if true old = refl
 cleared-if false old = refl
 
-control-after : (q : Queue) (b : Bool) (c : Control) → sameQueue Sdo q ≡ false → ControlAfter q b c (clears q b c)
-control-after Cmd b c h = record { held = refl; sync = refl; ibisync = refl; cmdrpending = refl; ibipending = refl; daapending = refl; burst = refl }
-control-after Cmdr b c h = record { held = refl; sync = refl; ibisync = refl; cmdrpending = cleared-if b (c .cmdrpending); ibipending = refl; daapending = refl; burst = refl }
-control-after Sdo b c h = absurd (true≢false h)
-control-after Sdi b c h = record { held = refl; sync = refl; ibisync = refl; cmdrpending = refl; ibipending = refl; daapending = refl; burst = refl }
-control-after Ibi b c h = record { held = refl; sync = refl; ibisync = refl; cmdrpending = refl; ibipending = cleared-if b (c .ibipending); daapending = refl; burst = refl }
+control-after : (q : Queue) (b : Bool) (v : ℕ) (c : Control) → sameQueue Sdo q ≡ false → ControlAfter q b v c (noted q v (clears q b c))
+control-after Cmd b v c h = record { held = refl; sync = refl; ibisync = refl; cmdrpending = refl; ibipending = refl; daapending = refl; burst = refl; latest = refl }
+control-after Cmdr b v c h = record { held = refl; sync = refl; ibisync = refl; cmdrpending = cleared-if b (c .cmdrpending); ibipending = refl; daapending = refl; burst = refl; latest = refl }
+control-after Sdo b v c h = absurd (true≢false h)
+control-after Sdi b v c h = record { held = refl; sync = refl; ibisync = refl; cmdrpending = refl; ibipending = refl; daapending = refl; burst = refl; latest = refl }
+control-after Ibi b v c h = record { held = refl; sync = refl; ibisync = refl; cmdrpending = refl; ibipending = cleared-if b (c .ibipending); daapending = refl; burst = refl; latest = refl }
 
 only-takes : (q : Queue) → of q (only q (take 1)) ≡ take 1
 only-takes Cmd = refl
@@ -200,7 +200,7 @@ some-left : (n m : ℕ) → n ≡ m → (n ≡ 0 → ⊥) → 1 ≤ m
 some-left zero m e k = absurd (k refl)
 some-left (suc n) m e k = omega (arith, e)
 
-one-less : (l : Controller) (q : Queue) → wellFormed (l .bank) ≡ true → RightLength l → eqb (of q (viewRings l .queues) .level) 0 ≡ false → heldWords q (settleRings l (effect (read (takes q) (viewRings l)))) ≡ drop 1 (heldWords q l)
+one-less : (l : Controller) (q : Queue) → wellFormed (l .bank) ≡ true → RightLength l → eqb (of q (viewRings l .queues) .level) 0 ≡ false → heldWords q (settleRings l (taken q (viewRings l))) ≡ drop 1 (heldWords q l)
 unfolding onRing
 one-less l q f z h =
     let k = queuesIn (l .bank) in
@@ -212,16 +212,17 @@ one-less l q f z h =
     ∙ ap (λ (x : Area). wordsIn x (l .store)) at
     ∙ entries-take (a .ring) (a .base) (l .store) 1 (some-left _ _ sameQueue some)
 
-took : (l : Controller) (q : Queue) → wellFormed (l .bank) ≡ true → RightLength l → sameQueue Sdo q ≡ false → eqb (of q (viewRings l .queues) .level) 0 ≡ false → (let e = effect (read (takes q) (viewRings l)) in ReadTook l (settleRings l e) (e .value) q)
+took : (l : Controller) (q : Queue) → wellFormed (l .bank) ≡ true → RightLength l → sameQueue Sdo q ≡ false → eqb (of q (viewRings l .queues) .level) 0 ≡ false → (let e = taken q (viewRings l) in ReadTook l (settleRings l e) (e .value) q)
 took l q f z h k =
-    record { first = first-of l q; words = one-less l q f z k; store = take-stores-none l q; output = refl; regs = refl; phase = refl; flags = refl; commands = refl; payloads = refl; control = control-after q _ (l .bank .state .control) h }
+    record { first = first-of l q; words = one-less l q f z k; store = take-stores-none l q; output = refl; regs = refl; phase = refl; flags = refl; commands = refl; payloads = refl; control = control-after q _ _ (l .bank .state .control) h }
 
 pub read-takes-one : ReadTakesOne
 unfolding ReadTakesOne
 read-takes-one l o q e h =
     by-outcome (λ r. r .answer .number ≡ 0 → ReadTook l (r .next) (r .answer .value) q) l (Read o) (λ n k z. absurd (not-zero n k z))
-    (λ f z p _.
-    subst (λ (x : Row). Passed (read x (viewRings l)) → (let d = effect (read x (viewRings l)) in ReadTook l (settleRings l d) (d .value) q)) (sym e) (λ g. took l q f z h (g .0)) p)
+    (λ f z p.
+    subst (λ (x : Row). let d = effect (read x (viewRings l)) in d .number ≡ 0 → ReadTook l (settleRings l d) (d .value) q) (sym e)
+    (of-take (λ d. effect d .number ≡ 0 → ReadTook l (settleRings l (effect d)) (effect d .value) q) q (viewRings l) (λ k n. absurd (omega (arith, n))) (λ k n. took l q f z h k)))
 
 -- ── Reset and release ─────────────────────────────────────────────────────────────────────────────────────────
 enable-keeps : (l : Controller) (b : Bool) → Outlives l (settleRings l (enable (viewRings l) b))
@@ -250,12 +251,19 @@ queues-none q st h =
 control-none : (c : Control) → controlClear c ≡ true → released c ≡ cleared false
 unfolding controlClear
 control-none c h =
-    let y = and-true (eqb (c .sync) 0 && eqb (c .ibisync) 0 && not (c .cmdrpending) && not (c .ibipending) && not (c .daapending)) (eqb (c .burst) 0) h in
-    let z = five (eqb (c .sync) 0) (eqb (c .ibisync) 0) (not (c .cmdrpending)) (not (c .ibipending)) (not (c .daapending)) (y .0) in
-    let d = eqb-true (c .burst) 0 (y .1) in
+    let w = c .latest in
+    let before = eqb (c .sync) 0 && eqb (c .ibisync) 0 && not (c .cmdrpending) && not (c .ibipending) && not (c .daapending) in
+    let x = and-true before (eqb (c .burst) 0 && latestClear w) h in
+    let y = and-true (eqb (c .burst) 0) (latestClear w) (x .1) in
+    let z = five (eqb (c .sync) 0) (eqb (c .ibisync) 0) (not (c .cmdrpending)) (not (c .ibipending)) (not (c .daapending)) (x .0) in
+    let k = three (eqb (w .cmdr) 0) (eqb (w .sdi) 0) (eqb (w .ibi) 0) (y .1) in
     let a = eqb-true (c .sync) 0 (z .0) in
     let b = eqb-true (c .ibisync) 0 (z .1) in
-    λ i. record { held = false; sync = a i; ibisync = b i; cmdrpending = not-true (c .cmdrpending) (z .2) i; ibipending = not-true (c .ibipending) (z .3) i; daapending = not-true (c .daapending) (z .4) i; burst = d i }
+    let d = eqb-true (c .burst) 0 (y .0) in
+    let e = eqb-true (w .cmdr) 0 (k .0) in
+    let f = eqb-true (w .sdi) 0 (k .1) in
+    let g = eqb-true (w .ibi) 0 (k .2) in
+    λ i. record { held = false; sync = a i; ibisync = b i; cmdrpending = not-true (c .cmdrpending) (z .2) i; ibipending = not-true (c .ibipending) (z .3) i; daapending = not-true (c .daapending) (z .4) i; burst = d i; latest = record { cmdr = e i; sdi = f i; ibi = g i } }
 
 while-held : (held rest : Bool) → held ≡ true → (not held || rest) ≡ true → rest ≡ true
 while-held true rest h e = e
@@ -314,7 +322,7 @@ read-count s absent = (refl, refl, refl)
 read-count s (shows f) = (refl, refl, refl)
 read-count s (holds c) = (refl, refl, refl)
 read-count s (pushes q) = (refl, refl, refl)
-read-count s (takes q) = clears-count q _ (s .control)
+read-count s (takes q) = of-take (λ d. SameCount (effect d .control) (s .control)) q s (λ e. (refl, refl, refl)) (λ e. clears-count q _ (s .control))
 read-count s enables = (refl, refl, refl)
 read-count s acknowledges = (refl, refl, refl)
 
@@ -388,7 +396,7 @@ finish-tests l code b n =
 pub refused-finish-again : RefusedFinishAgain
 unfolding RefusedFinishAgain RefusalChangesNothing
 refused-finish-again l code os b n =
-    let sameQueue = refusal-changes-nothing l (Finish code) (λ e. absurd (omega (arith, n, e))) (λ e. absurd (omega (arith, n, e))) .0 in
+    let sameQueue = refusal-changes-nothing l (Finish code) (λ e. absurd (omega (arith, n, e))) (λ e. absurd (omega (arith, n, e))) in
     let h = finish-tests l code b n in
     let s = same-final (lending (l .output) (reads os)) l (listed l) (record { is = refl; formed = formed-of (l .bank) (h .0); size = h .1 }) in
     subst

@@ -17,13 +17,13 @@ use Rattle.bank.proofs.Bools.{or-left}
 use Rattle.registers.specs.Map.{named, entryAt, registerAt}
 use Rattle.bank.specs.Bits.{bit}
 use Rattle.model.specs.View.{Cmd, Cmdr, Sdo, Sdi, Ibi}
-use Rattle.model.specs.Decision.{first, effect}
+use Rattle.model.specs.Decision.{Effect, Decision, first, effect}
 use Rattle.model.specs.Commands.{Command, firstWord, lengthOf, receiptWord}
-use Rattle.model.specs.Registers.{Row, absent, shows, holds, pushes, takes, enables, acknowledges, row, enable, read, write}
+use Rattle.model.specs.Registers.{Row, absent, shows, holds, pushes, takes, enables, acknowledges, row, enable, taken, read, write}
 use Rattle.model.specs.Calls.{command, advanced, start, send, receive, finish, interrupt, request, takeAddress}
 use Rattle.model.specs.Lists.{Lists, viewList, viewLists, settleLists}
 use Rattle.model.specs.Demand.{Event, enabled, word, wrote, sawRoom, bus, started, sent, received, addressed, finished, gotReceipt, other, Tally, Run, follow, directPhase, writeEvent, readEvent, countRun, change, nothing, moved, Fitting, Every, takenWords, joined, Each}
-use Rattle.model.proofs.Tests.{Passed}
+use Rattle.model.proofs.Tests.{Passed, of-take}
 use Rattle.model.proofs.Phases.{writing-is, reading-is, requested-assigns, neither}
 use Rattle.model.proofs.Invariant.{OpenAs, Done, Inv, inv-took, inv-lost, inv-room, inv-start, inv-move, inv-finish, inv-got}
 use Rattle.model.proofs.Offsets.{quietWrite, quietRead, write-quiet, read-quiet}
@@ -191,7 +191,7 @@ room-good : (o : Option Tally) (l : Lists) → Good o (key l) → Good (follow o
 room-good none l g = g
 room-good (some t) l g = record { isReleased = g .isReleased; inv = inv-room (t .words) (t .past) (t .receipts) (l .queues .cmd .cap) (key l .phase) (l .queues .cmd .words) (l .queues .cmdr .words) (l .control .sync) (t .now) (g .inv) }
 
-receipt-good : (o : Option Tally) (l : Lists) → eqb (length (l .queues .cmdr .words)) 0 ≡ false → Good o (key l) → Good (follow o (gotReceipt (getD (l .queues .cmdr .words) 0 0))) (key (settleLists l (effect (read (takes Cmdr) (viewLists l)))))
+receipt-good : (o : Option Tally) (l : Lists) → eqb (length (l .queues .cmdr .words)) 0 ≡ false → Good o (key l) → Good (follow o (gotReceipt (getD (l .queues .cmdr .words) 0 0))) (key (settleLists l (taken Cmdr (viewLists l))))
 receipt-good none l f g = record { isHeld = g .isHeld; isIdle = g .isIdle; noCommands = g .noCommands; noReceipts = ap (λ (q : List ℕ). drop 1 q) (g .noReceipts); noSync = g .noSync }
 receipt-good (some t) l f g =
     let q = l .queues .cmdr .words in
@@ -207,26 +207,35 @@ quiet-read l (holds c) h = refl
 quiet-read l (pushes q) h = refl
 quiet-read l (takes Cmd) h = absurd (false≢true h)
 quiet-read l (takes Cmdr) h = absurd (false≢true h)
-quiet-read l (takes Sdo) h = refl
-quiet-read l (takes Sdi) h = refl
-quiet-read l (takes Ibi) h = refl
+quiet-read l (takes Sdo) h = of-take (λ d. key l ≡ key (settleLists l (effect d))) Sdo (viewLists l) (λ e. refl) (λ e. refl)
+quiet-read l (takes Sdi) h = of-take (λ d. key l ≡ key (settleLists l (effect d))) Sdi (viewLists l) (λ e. refl) (λ e. refl)
+quiet-read l (takes Ibi) h = of-take (λ d. key l ≡ key (settleLists l (effect d))) Ibi (viewLists l) (λ e. refl) (λ e. refl)
 quiet-read l enables h = refl
 quiet-read l acknowledges h = refl
 
 abbrev AfterRead : Option Tally → Lists → ℕ → Event → Type 0
 AfterRead o l off e = Good (follow o e) (key (settleLists l (effect (read (row (registerAt off)) (viewLists l)))))
 
-pub read-good : (o : Option Tally) (l : Lists) (off : ℕ) → Passed (read (row (registerAt off)) (viewLists l)) → Good o (key l) → AfterRead o l off (readEvent off (effect (read (row (registerAt off)) (viewLists l)) .value) true)
-unfolding named entryAt
-read-good o l off f g = go (eqb off 0x0c0) (eqb off 0x0d8) refl refl f
-  where
-    val : ℕ → ℕ
-    val n = effect (read (row (registerAt n)) (viewLists l)) .value
+-- after a read of CMDR: the receipt counts where it was taken; one shown again does not
+abbrev CountsTaken : Option Tally → Lists → Decision → Type 0
+CountsTaken o l d = Good (follow o (cond (eqb (effect d .number) 0) (gotReceipt (effect d .value)) other)) (key (settleLists l (effect d)))
 
-    go : (a b : Bool) → eqb off 0x0c0 ≡ a → eqb off 0x0d8 ≡ b → Passed (read (row (registerAt off)) (viewLists l)) → AfterRead o l off (cond a (word (sawRoom (val off))) (cond b (gotReceipt (val off)) other))
-    go true b m n f = subst (λ (x : ℕ). AfterRead o l x (word (sawRoom (val x)))) (sym (eqb-true off 0x0c0 m)) (room-good o l g)
-    go false true m n f = subst (λ (x : ℕ). Passed (read (row (registerAt x)) (viewLists l)) → AfterRead o l x (gotReceipt (val x))) (sym (eqb-true off 0x0d8 n)) (λ p. receipt-good o l (p .0) g) f
-    go false false m n f = subst (Good (follow o other)) (quiet-read l (row (registerAt off)) (read-quiet off n)) (other-good o (key l) g)
+pub read-good : (o : Option Tally) (l : Lists) (off : ℕ) → Good o (key l) → (let e = effect (read (row (registerAt off)) (viewLists l)) in AfterRead o l off (readEvent off (e .value) (eqb (e .number) 0)))
+unfolding named entryAt
+read-good o l off g = go (eqb off 0x0c0) (eqb off 0x0d8) refl refl
+  where
+    said : ℕ → Effect
+    said n = effect (read (row (registerAt n)) (viewLists l))
+
+    zero-at : ℕ → Bool
+    zero-at n = eqb (said n .number) 0
+
+    go : (a b : Bool) → eqb off 0x0c0 ≡ a → eqb off 0x0d8 ≡ b → AfterRead o l off (cond a (cond (zero-at off) (word (sawRoom (said off .value))) other) (cond b (cond (zero-at off) (gotReceipt (said off .value)) other) other))
+    go true b m n = subst (λ (x : ℕ). AfterRead o l x (cond (zero-at x) (word (sawRoom (said x .value))) other)) (sym (eqb-true off 0x0c0 m)) (room-good o l g)
+    go false true m n =
+        subst (λ (x : ℕ). AfterRead o l x (cond (zero-at x) (gotReceipt (said x .value)) other)) (sym (eqb-true off 0x0d8 n))
+        (of-take (CountsTaken o l) Cmdr (viewLists l) (λ e. other-good o (key l) g) (λ e. receipt-good o l e g))
+    go false false m n = subst (Good (follow o other)) (quiet-read l (row (registerAt off)) (read-quiet off n)) (other-good o (key l) g)
 
 pub read-refused : (o : Option Tally) (k : Key) (off : ℕ) → Good o k → Good (follow o (readEvent off 0 false)) k
 read-refused o k off g = go (eqb off 0x0c0) (eqb off 0x0d8)

@@ -18,7 +18,7 @@ use Rattle.bank.specs.Phases.{idle, assigning, transfer, unattached, limit, par
 use Rattle.bank.specs.Bursts.{bursting}
 use Rattle.bank.specs.SetUp.{sizeOk, marksOk}
 use Rattle.bank.specs.declared.Counts.{Counts}
-use Rattle.bank.specs.Formed.{ringOk, queuesOk, regsOk, flagsOk, phaseOk, ringClear, queuesClear, controlClear, resetOk}
+use Rattle.bank.specs.Formed.{ringOk, queuesOk, regsOk, flagsOk, phaseOk, ringClear, queuesClear, latestClear, controlClear, resetOk}
 use Rattle.bank.proofs.Bools.{and-true, true-and, three, five, all-three, all-five}
 use Rattle.bank.proofs.Laws.{ring-valid, rings-of, rings-are}
 use Rattle.registers.specs.Map.{registerAt}
@@ -32,7 +32,7 @@ use Rattle.model.specs.Registers.{Cell, scratch, mask, ops, ibiConfig, d
 use Rattle.model.specs.Calls.{advanced, firstOfWord, lastOfWord, start, send, receive, finish, interrupt, request, takeAddress}
 use Rattle.model.specs.Bursts.{trigger, burstSend, burstReceive, burstFinish, decide}
 use Rattle.model.specs.Rings.{Controller, viewQueues, viewRings, onRing, onRings}
-use Rattle.model.proofs.Tests.{Passed, of-two}
+use Rattle.model.proofs.Tests.{Passed, of-two, of-take}
 use Rattle.model.specs.Fits.{Fits, AllFit}
 use Rattle.model.proofs.Rings.{cap-same, valid-op}
 
@@ -76,7 +76,10 @@ read-untouched s absent = record { regsSame = refl; tablesSame = refl; phaseSame
 read-untouched s (shows f) = record { regsSame = refl; tablesSame = refl; phaseSame = refl; burstSame = refl }
 read-untouched s (holds c) = record { regsSame = refl; tablesSame = refl; phaseSame = refl; burstSame = refl }
 read-untouched s (pushes q) = record { regsSame = refl; tablesSame = refl; phaseSame = refl; burstSame = refl }
-read-untouched s (takes q) = record { regsSame = refl; tablesSame = refl; phaseSame = refl; burstSame = clears-burst q _ (s .control) }
+read-untouched s (takes q) =
+    of-take (λ d. let e = effect d in Untouched s (e .regs) (e .tables) (e .phase) (e .control)) q s
+    (λ f. record { regsSame = refl; tablesSame = refl; phaseSame = refl; burstSame = refl })
+    (λ f. record { regsSame = refl; tablesSame = refl; phaseSame = refl; burstSame = clears-burst q _ (s .control) })
 read-untouched s enables = record { regsSame = refl; tablesSame = refl; phaseSame = refl; burstSame = refl }
 read-untouched s acknowledges = record { regsSame = refl; tablesSame = refl; phaseSame = refl; burstSame = refl }
 
@@ -318,9 +321,9 @@ not-and false false e = refl
 pending-clear : (c : Control) (x y z : Bool) → controlClear c ≡ true → controlClear (pending (x && c .cmdrpending) (y && c .ibipending) (z && c .daapending) c) ≡ true
 unfolding controlClear
 pending-clear c x y z h =
-    let j = and-true (eqb (c .sync) 0 && eqb (c .ibisync) 0 && not (c .cmdrpending) && not (c .ibipending) && not (c .daapending)) (eqb (c .burst) 0) h in
+    let j = and-true (eqb (c .sync) 0 && eqb (c .ibisync) 0 && not (c .cmdrpending) && not (c .ibipending) && not (c .daapending)) (eqb (c .burst) 0 && latestClear (c .latest)) h in
     let k = five (eqb (c .sync) 0) (eqb (c .ibisync) 0) (not (c .cmdrpending)) (not (c .ibipending)) (not (c .daapending)) (j .0) in
-    true-and (eqb (c .sync) 0 && eqb (c .ibisync) 0 && not (x && c .cmdrpending) && not (y && c .ibipending) && not (z && c .daapending)) (eqb (c .burst) 0)
+    true-and (eqb (c .sync) 0 && eqb (c .ibisync) 0 && not (x && c .cmdrpending) && not (y && c .ibipending) && not (z && c .daapending)) (eqb (c .burst) 0 && latestClear (c .latest))
     (all-five (eqb (c .sync) 0) (eqb (c .ibisync) 0) (not (x && c .cmdrpending)) (not (y && c .ibipending)) (not (z && c .daapending)) (k .0) (k .1) (not-and (c .cmdrpending) x (k .2)) (not-and (c .ibipending) y (k .3)) (not-and (c .daapending) z (k .4)))
     (j .1)
 
@@ -359,7 +362,10 @@ read-reset l absent e h = h
 read-reset l (shows f) e h = h
 read-reset l (holds c) e h = h
 read-reset l (pushes q) e h = h
-read-reset l (takes q) e h = reset-ok (l .bank .state .control) _ (l .bank .state .phase) _ (queuesIn (l .bank)) _ (clears-held q _ (l .bank .state .control)) refl (λ c d. absurd (clear-at l q c (e .0))) h
+read-reset l (takes q) e h =
+    of-take (λ d. let x = effect d in ResetOk l (x .control) (x .phase) (x .ops)) q (viewRings l)
+    (λ f. h)
+    (λ f. reset-ok (l .bank .state .control) _ (l .bank .state .phase) _ (queuesIn (l .bank)) _ (clears-held q _ (l .bank .state .control)) refl (λ c d. absurd (clear-at l q c f)) h)
 read-reset l enables e h = h
 read-reset l acknowledges e h = h
 

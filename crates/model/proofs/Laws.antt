@@ -1,12 +1,14 @@
 -- The other laws of `step`: engines agree, refusals change nothing, a store keeps its length, queues not named stay.
-use Prim.Native.Nat.{ℕ}
+use Prim.Native.Nat.{ℕ, _/_, _%_, _^_}
+use native.Mathlib.Omega.{arith}
 use mathlib.Core.Path.{_≡_, refl, ap, ap₂, sym, _∙_, subst}
 use mathlib.Core.Bool.{Bool, true, false, cond, not, _||_, true≢false, false≢true}
 use mathlib.Core.List.{List, [], _∷_}
 use mathlib.Core.Option.{Option, none, some}
 use lib.Dec.{eqb}
+use lib.Count.{ones}
 use lib.ListN.{length, set, length-set}
-use borrow.Author.Tests.{ne-eqb, eqb-true}
+use borrow.Author.Tests.{ne-eqb, eqb-true, eqb-false}
 use Rattle.ring.specs.Ring.{entries}
 use Rattle.bank.specs.declared.Bank.{Bank}
 use Rattle.bank.specs.declared.Regs.{Regs}
@@ -29,11 +31,11 @@ use Rattle.model.specs.Registers.{Cell, scratch, mask, ops, ibiConfig, d
 use Rattle.model.specs.Calls.{start, send, receive, finish, interrupt, request, takeAddress}
 use Rattle.model.specs.Bursts.{trigger, burstSend, burstReceive, burstFinish, decide}
 use Rattle.model.specs.Engine.{Step, outcome, step, Lent, stepLent, final, answers}
-use Rattle.model.specs.Rings.{Controller, Area, areas, wordsIn, viewRings, onRing, settleRings, guardRings, rings}
+use Rattle.model.specs.Rings.{Controller, Area, areas, wordsIn, viewRings, onRing, onStore, settleRings, guardRings, rings}
 use Rattle.model.specs.Lists.{Lists, lists, onWords}
-use Rattle.model.specs.Laws.{freshController, freshLists, EnginesAgree, RefusalChangesNothing, StoreKeepsLength, OutputKeepsLength, WatermarksStay, sameQueue, readNames, writeNames, names, OthersStay}
-use Rattle.model.proofs.Tests.{Passed, passed, of-two, Refusal, refusal}
-use Rattle.model.proofs.Numbers.{zeroOr19, effect-number, all-refusals}
+use Rattle.model.specs.Laws.{freshController, freshLists, EnginesAgree, RefusalChangesNothing, RefusalShowsNothing, StoreKeepsLength, OutputKeepsLength, WatermarksStay, sameQueue, readNames, writeNames, names, OthersStay}
+use Rattle.model.proofs.Tests.{Passed, passed, of-two, of-take, Refusal, refusal}
+use Rattle.model.proofs.Numbers.{ofEffect, write-number, effect-number, all-refusals}
 use Rattle.model.proofs.Room.{fits}
 use Rattle.model.proofs.Formed.{read-untouched, stored-marks}
 use Rattle.model.proofs.Rings.{listed, length-all, base-same, settled-words, onArea}
@@ -46,8 +48,8 @@ unfolding guardRings
 by-guard P l d r s = go (wellFormed (l .bank)) (eqb (length (l .store)) (total (l .bank .state .caps))) refl refl
   where
     go : (a b : Bool) → wellFormed (l .bank) ≡ a → eqb (length (l .store)) (total (l .bank .state .caps)) ≡ b → P (cond (not a) (some 21) (cond (not b) (some 22) (first d)))
-    go false b e f = r 21 (record { not0 = refl; not19 = refl })
-    go true false e f = r 22 (record { not0 = refl; not19 = refl })
+    go false b e f = r 21 (record { not0 = refl; not3 = refl; not19 = refl })
+    go true false e f = r 22 (record { not0 = refl; not3 = refl; not19 = refl })
     go true true e f = s e (eqb-true (length (l .store)) (total (l .bank .state .caps)) f)
 
 -- a property of the outcome holds where it holds of every refusal and of the settled call
@@ -64,13 +66,63 @@ module _ (P : Step Controller → Type 0) (l : Controller) (c : Call) where
       go f z (some n) e = r n (refusal (decide (viewRings l) c) n (all-refusals (viewRings l) c) e)
 
 -- ── Refusals ──────────────────────────────────────────────────────────────────────────────────────────────────
-neither-is : (n : ℕ) → zeroOr19 n ≡ true → (n ≡ 0 → ⊥) → (n ≡ 19 → ⊥) → ⊥
-neither-is n h a b = false≢true (sym (rw (ne-eqb n 0 a, ne-eqb n 19 b)) ∙ h)
+none-is : (n : ℕ) → ofEffect n ≡ true → (n ≡ 0 → ⊥) → (n ≡ 3 → ⊥) → (n ≡ 19 → ⊥) → ⊥
+none-is n h a b c = false≢true (sym (rw (ne-eqb n 0 a, ne-eqb n 3 b, ne-eqb n 19 c)) ∙ h)
+
+pub refusal-shows-nothing : RefusalShowsNothing
+unfolding RefusalShowsNothing
+refusal-shows-nothing l c =
+    by-outcome (λ r. (r .answer .number ≡ 0 → ⊥) → (r .answer .number ≡ 3 → ⊥) → (r .answer .number ≡ 19 → ⊥) → r .answer .value ≡ 0) l c
+    (λ n k a b d. refl)
+    (λ f z p a b d. absurd (none-is (effect (decide (viewRings l) c) .number) (effect-number (viewRings l) c) a b d))
+
+not-3 : (n : ℕ) → n ≡ 0 → n ≡ 3 → ⊥
+not-3 n a b = omega (arith, a, b)
+
+parity-not-3 : (b : Bool) (x y : ℕ) → x ≡ 0 → y ≡ 19 → cond b x y ≡ 3 → ⊥
+parity-not-3 true x y i j h = omega (arith, i, h)
+parity-not-3 false x y i j h = omega (arith, j, h)
+
+-- an effect of number 3 changes nothing
+abbrev StaysAt3 : Controller → Decision → Type 0
+StaysAt3 l d = effect d .number ≡ 3 → settleRings l (effect d) ≡ l
+
+read-at-3 : (l : Controller) (x : Row) → StaysAt3 l (read x (viewRings l))
+unfolding onRing onStore
+read-at-3 l absent e = refl
+read-at-3 l (shows f) e = refl
+read-at-3 l (holds c) e = refl
+read-at-3 l (pushes q) e = refl
+read-at-3 l (takes q) e = of-take (StaysAt3 l) q (viewRings l) (λ f i. refl) (λ f i. absurd (not-3 0 refl i)) e
+read-at-3 l enables e = refl
+read-at-3 l acknowledges e = refl
+
+stays-at-3 : (l : Controller) (c : Call) → StaysAt3 l (decide (viewRings l) c)
+unfolding start send receive finish interrupt request takeAddress trigger burstSend burstReceive burstFinish
+stays-at-3 l (Read o) e = read-at-3 l (row (registerAt o)) e
+stays-at-3 l (Write o v) e = absurd (not-3 _ (write-number (viewRings l) (row (registerAt o)) v) e)
+stays-at-3 l Start e = absurd (not-3 0 refl e)
+stays-at-3 l Send e = of-two (StaysAt3 l) (bursting (l .bank .state .control)) (burstSend (viewRings l)) (send (viewRings l)) (λ f i. absurd (not-3 0 refl i)) (λ f i. absurd (not-3 0 refl i)) e
+stays-at-3 l (Receive b) e = of-two (StaysAt3 l) (bursting (l .bank .state .control)) (burstReceive (viewRings l) b) (receive (viewRings l) b) (λ f i. absurd (not-3 0 refl i)) (λ f i. absurd (not-3 0 refl i)) e
+stays-at-3 l (Finish code) e = of-two (StaysAt3 l) (bursting (l .bank .state .control)) (burstFinish (viewRings l) code) (finish (viewRings l) code) (λ f i. absurd (not-3 0 refl i)) (λ f i. absurd (not-3 0 refl i)) e
+stays-at-3 l (Interrupt a b) e = absurd (not-3 0 refl e)
+stays-at-3 l (Request v w) e = absurd (not-3 0 refl e)
+stays-at-3 l Take e = absurd (parity-not-3 (eqb (ones (viewRings l .queues .sdo .first / 2 ^ 24) % 2) 1) 0 19 refl refl e)
+stays-at-3 l Trigger e = absurd (not-3 0 refl e)
+
+only-3 : (n : ℕ) → ofEffect n ≡ true → (n ≡ 0 → ⊥) → (n ≡ 19 → ⊥) → n ≡ 3
+only-3 n h a b = go (eqb n 3) refl
+  where
+    go : (x : Bool) → eqb n 3 ≡ x → n ≡ 3
+    go true e = eqb-true n 3 e
+    go false e = absurd (none-is n h a (eqb-false n 3 e) b)
 
 pub refusal-changes-nothing : RefusalChangesNothing
 unfolding RefusalChangesNothing
 refusal-changes-nothing l c =
-    by-outcome (λ r. (r .answer .number ≡ 0 → ⊥) → (r .answer .number ≡ 19 → ⊥) → (r .next ≡ l) × (r .answer .value ≡ 0)) l c (λ n k a b. (refl, refl)) (λ f z p a b. absurd (neither-is (effect (decide (viewRings l) c) .number) (effect-number (viewRings l) c) a b))
+    by-outcome (λ r. (r .answer .number ≡ 0 → ⊥) → (r .answer .number ≡ 19 → ⊥) → r .next ≡ l) l c
+    (λ n k a b. refl)
+    (λ f z p a b. stays-at-3 l c (only-3 (effect (decide (viewRings l) c) .number) (effect-number (viewRings l) c) a b))
 
 pub store-keeps-length : StoreKeepsLength
 unfolding StoreKeepsLength
@@ -200,7 +252,7 @@ read-kept s absent k h = kept-all k
 read-kept s (shows f) k h = kept-all k
 read-kept s (holds c) k h = kept-all k
 read-kept s (pushes q) k h = kept-all k
-read-kept s (takes q) k h = kept-only q _ k h
+read-kept s (takes q) k h = of-take (λ d. of k (effect d .ops) ≡ keep) q s (λ e. kept-all k) (λ e. kept-only q _ k h)
 read-kept s enables k h = kept-all k
 read-kept s acknowledges k h = kept-all k
 

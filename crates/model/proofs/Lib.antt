@@ -18,6 +18,7 @@ pub mod Demand
 pub mod Cases
 pub mod Driver
 pub mod Removal
+pub mod EmptyRead
 pub mod Endings
 pub mod Alone
 pub mod Inside

@@ -27,7 +27,7 @@ use Rattle.model.specs.Demand.{Event, bus, started, sent, received, fini
 use Rattle.model.proofs.Cut.{WellCut, cut-joined, joined-append}
 use Rattle.model.proofs.Invariant.{OpenAs, OpenIn, Done, OrderOk, each-append, receipts-append}
 use Rattle.model.proofs.Tests.{Passed, passed, of-two, Refusal, refusal}
-use Rattle.model.proofs.Numbers.{read-number, write-number, all-refusals}
+use Rattle.model.proofs.Numbers.{write-number, all-refusals}
 use Rattle.model.proofs.Events.{Key, key, direct, Good, send-good, receive-good, request-good, take-good, start-good, finish-good, interrupt-good, read-good, write-good, other-good, write-refused, read-refused}
 use Rattle.model.proofs.Strays.{Steady, no-burst, steady-kept, sends, receives, finishes, stray-good, as-direct, key-in, key-finished, key-triggered}
 use Rattle.model.proofs.Phases.{requested-assigns}
@@ -54,7 +54,7 @@ module _ (o : Option Tally) (l : Lists) (n : bursting (l .control) ≡ false) wh
 
 served-good : (o : Option Tally) (l : Lists) (c : Call) → Steady (l .control) (l .phase) → Good o (key l) → Served o l c (decide (viewLists l) c)
 unfolding start send receive finish interrupt request takeAddress trigger burstSend burstReceive burstFinish
-served-good o l (Read off) h g f = rw (read-number (viewLists l) (row (registerAt off))) (read-good o l off f g)
+served-good o l (Read off) h g f = read-good o l off g
 served-good o l (Write off v) h g f = rw (write-number (viewLists l) (row (registerAt off)) v) (write-good o l off v f g)
 served-good o l Start h g f =
     let n = no-burst (l .control) (l .phase) h (λ z. true≢false (sym (not-false (idle (l .phase)) (f .1 .1 .0)) ∙ z .0)) in

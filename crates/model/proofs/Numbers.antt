@@ -1,4 +1,4 @@
--- The numbers of a call: an effect has 0 or 19, a refusal neither.
+-- The numbers of a call: an effect has 0, 19, or 3 where a read shows a word again; a refusal has neither 0 nor 19.
 use Prim.Native.Nat.{ℕ, _/_, _%_, _^_}
 use mathlib.Core.Path.{_≡_, refl}
 use mathlib.Core.Bool.{Bool, true, false, cond, _||_}
@@ -9,19 +9,33 @@ use Rattle.registers.specs.Map.{registerAt}
 use Rattle.model.specs.declared.Call.{Call}
 use Rattle.model.specs.declared.Call.the-variants.{Read, Write, Start, Send, Receive, Finish, Interrupt, Request, Take, Trigger}
 use Rattle.bank.specs.Bits.{bit}
-use Rattle.model.specs.View.{View}
-use Rattle.model.specs.Decision.{Decision, effect}
-use Rattle.model.specs.Registers.{Row, absent, shows, holds, pushes, takes, enables, acknowledges, row, enable, read, write}
+use Rattle.model.specs.View.{of, empty, View}
+use Rattle.model.specs.Decision.{Effect, Decision, does, effect}
+use Rattle.model.specs.Registers.{Row, absent, shows, holds, pushes, takes, enables, acknowledges, row, enable, taken, shownAgain, read, write}
 use Rattle.model.specs.Calls.{start, send, receive, finish, interrupt, request, takeAddress}
 use Rattle.model.specs.Bursts.{trigger, burstSend, burstReceive, burstFinish, decide}
-use Rattle.model.proofs.Tests.{of-two, refusals}
+use Rattle.model.proofs.Tests.{of-two, of-take, refusals}
 
-pub read-number : (s : View) (x : Row) → effect (read x s) .number ≡ 0
+-- whether a read takes from a queue that is empty
+abbrev pub emptied : Row → View → Bool
+emptied absent s = false
+emptied (shows f) s = false
+emptied (holds c) s = false
+emptied (pushes q) s = false
+emptied (takes q) s = empty (of q (s .queues))
+emptied enables s = false
+emptied acknowledges s = false
+
+take-number : (b : Bool) (e f : Effect) → e .number ≡ 3 → f .number ≡ 0 → effect (cond b (does e) (does f)) .number ≡ cond b 3 0
+take-number true e f h k = h
+take-number false e f h k = k
+
+pub read-number : (s : View) (x : Row) → effect (read x s) .number ≡ cond (emptied x s) 3 0
 read-number s absent = refl
 read-number s (shows f) = refl
 read-number s (holds c) = refl
 read-number s (pushes q) = refl
-read-number s (takes q) = refl
+read-number s (takes q) = take-number (empty (of q (s .queues))) (shownAgain q s) (taken q s) refl refl
 read-number s enables = refl
 read-number s acknowledges = refl
 
@@ -39,19 +53,19 @@ write-number s (takes q) v = refl
 write-number s enables v = enable-number s (bit 0 v)
 write-number s acknowledges v = refl
 
-abbrev pub zeroOr19 : ℕ → Bool
-zeroOr19 n = eqb n 0 || eqb n 19
+abbrev pub ofEffect : ℕ → Bool
+ofEffect n = eqb n 0 || eqb n 3 || eqb n 19
 
-take-number : (b : Bool) → zeroOr19 (cond b 0 19) ≡ true
-take-number true = refl
-take-number false = refl
+one-of-two : (b : Bool) (m n : ℕ) → ofEffect m ≡ true → ofEffect n ≡ true → ofEffect (cond b m n) ≡ true
+one-of-two true m n h k = h
+one-of-two false m n h k = k
 
 abbrev Ends : Decision → Type 0
-Ends d = zeroOr19 (effect d .number) ≡ true
+Ends d = ofEffect (effect d .number) ≡ true
 
 pub effect-number : (s : View) (c : Call) → Ends (decide s c)
 unfolding start send receive finish interrupt request takeAddress trigger burstSend burstReceive burstFinish
-effect-number s (Read o) = rw (read-number s (row (registerAt o)))
+effect-number s (Read o) = rw (read-number s (row (registerAt o))) (one-of-two (emptied (row (registerAt o)) s) 3 0 refl refl)
 effect-number s (Write o v) = rw (write-number s (row (registerAt o)) v)
 effect-number s Start = refl
 effect-number s Send = of-two Ends (bursting (s .control)) (burstSend s) (send s) (λ e. refl) (λ e. refl)
@@ -59,7 +73,7 @@ effect-number s (Receive b) = of-two Ends (bursting (s .control)) (burstReceive 
 effect-number s (Finish code) = of-two Ends (bursting (s .control)) (burstFinish s code) (finish s code) (λ e. refl) (λ e. refl)
 effect-number s (Interrupt a b) = refl
 effect-number s (Request v w) = refl
-effect-number s Take = take-number (eqb (ones (s .queues .sdo .first / 2 ^ 24) % 2) 1)
+effect-number s Take = one-of-two (eqb (ones (s .queues .sdo .first / 2 ^ 24) % 2) 1) 0 19 refl refl
 effect-number s Trigger = refl
 
 pub read-refusals : (s : View) (x : Row) → refusals (read x s) ≡ true
@@ -67,7 +81,7 @@ read-refusals s absent = refl
 read-refusals s (shows f) = refl
 read-refusals s (holds c) = refl
 read-refusals s (pushes q) = refl
-read-refusals s (takes q) = refl
+read-refusals s (takes q) = of-take (λ d. refusals d ≡ true) q s (λ e. refl) (λ e. refl)
 read-refusals s enables = refl
 read-refusals s acknowledges = refl
 

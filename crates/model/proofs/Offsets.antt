@@ -1,6 +1,7 @@
--- Demand 3 counts accesses at four offsets. At every other the row is one that leaves what it speaks of alone.
+-- Demand 3 counts accesses at four offsets. At every other the row is one that leaves what it speaks of alone. The same of ENABLE, and of
+-- the queues that the driver reads.
 use Prim.Native.Nat.{ℕ, _-_, _/_}
-use mathlib.Core.Path.{_≡_, refl, subst}
+use mathlib.Core.Path.{_≡_, refl, sym, _∙_, ap, subst}
 use mathlib.Core.Bool.{Bool, true, false, cond, _&&_, _||_, true≢false}
 use mathlib.Core.List.{List, [], _∷_}
 use lib.Dec.{eqb}
@@ -9,7 +10,7 @@ use Rattle.registers.specs.declared.Register.{Register}
 use Rattle.registers.specs.declared.Register.the-variants.{OffloadCmd, OffloadSdo, Unmapped}
 use Rattle.registers.specs.Map.{Entry, named, inMemory, offload, entryAt, registerAt}
 use Rattle.bank.proofs.Bools.{and-true}
-use Rattle.model.specs.View.{of, each}
+use Rattle.model.specs.View.{Queue, of, each}
 use Rattle.model.specs.Registers.{Row, absent, shows, holds, pushes, takes, enables, acknowledges, row}
 
 -- a row whose writes, or reads, leave CMD, CMDR, the transfer and the receipts' sync alone
@@ -70,6 +71,45 @@ offload-is P hc hw hu o = two (inMemory 0x2c0 o) (inMemory 0x300 o) ((o - 0x2c0)
 pub write-quiet : (o : ℕ) → eqb o 0x040 ≡ false → eqb o 0x0d4 ≡ false → quietWrite (row (registerAt o)) ≡ true
 unfolding named
 write-quiet o m n = found quietWrite 0x040 0x0d4 o m n named (offload o) (offload-is quietWrite (λ i. refl) (λ i. refl) refl o) refl
+
+-- a write elsewhere is no write to ENABLE
+abbrev pub enablesNot : Row → Bool
+enablesNot absent = true
+enablesNot (shows f) = true
+enablesNot (holds c) = true
+enablesNot (pushes q) = true
+enablesNot (takes q) = true
+enablesNot enables = false
+enablesNot acknowledges = true
+
+pub enables-not : (o : ℕ) → eqb o 0x040 ≡ false → enablesNot (row (registerAt o)) ≡ true
+unfolding named
+enables-not o n = found enablesNot 0x040 0x040 o n n named (offload o) (offload-is enablesNot (λ i. refl) (λ i. refl) refl o) refl
+
+-- the queues that the driver reads; no register takes from another
+abbrev pub driverReads : Queue → Bool
+driverReads q = of q (each false true false true true)
+
+abbrev takesThese : Row → Bool
+takesThese absent = true
+takesThese (shows f) = true
+takesThese (holds c) = true
+takesThese (pushes q) = true
+takesThese (takes q) = driverReads q
+takesThese enables = true
+takesThese acknowledges = true
+
+-- 1 is no offset of the map
+takes-these : (o : ℕ) → takesThese (row (registerAt o)) ≡ true
+unfolding named entryAt offload
+takes-these o = go (eqb o 1) refl
+  where
+    go : (b : Bool) → eqb o 1 ≡ b → takesThese (row (registerAt o)) ≡ true
+    go true e = subst (λ (n : ℕ). takesThese (row (registerAt n)) ≡ true) (sym (eqb-true o 1 e)) refl
+    go false e = found takesThese 1 1 o e e named (offload o) (offload-is takesThese (λ i. refl) (λ i. refl) refl o) refl
+
+pub taken-by-driver : (o : ℕ) (k : Queue) → row (registerAt o) ≡ takes k → driverReads k ≡ true
+taken-by-driver o k e = sym (ap takesThese e) ∙ takes-these o
 
 -- reads of the room count too, and change nothing
 pub read-quiet : (o : ℕ) → eqb o 0x0d8 ≡ false → quietRead (row (registerAt o)) ≡ true

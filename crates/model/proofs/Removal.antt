@@ -128,7 +128,7 @@ module _ (l : Controller) (code : ℕ) (f : Ready (queuesIn (l .bank)) (l .store
         receipts = settled-words (queuesIn (l .bank)) (l .store) (finished (viewRings l) code .ops) f h Cmdr;
         queues = other-queues;
         store = refl;
-        control = record { held = refl; sync = refl; ibisync = refl; cmdrpending = refl; ibipending = refl; daapending = refl; burst = refl };
+        control = record { held = refl; sync = refl; ibisync = refl; cmdrpending = refl; ibipending = refl; daapending = refl; burst = refl; latest = refl };
         phase = refl;
         regs = refl;
         flags = refl;

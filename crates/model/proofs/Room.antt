@@ -19,7 +19,7 @@ use Rattle.model.specs.Commands.{twoWords}
 use Rattle.model.specs.Registers.{Row, absent, shows, holds, pushes, takes, enables, acknowledges, row, enable, read, write}
 use Rattle.model.specs.Calls.{whole, wordCount, firstOfWord, lastOfWord, padded, removes, start, send, receive, finish, interrupt, request, takeAddress}
 use Rattle.model.specs.Bursts.{trigger, burstSend, burstReceive, burstFinish, decide}
-use Rattle.model.proofs.Tests.{Passed, of-two}
+use Rattle.model.proofs.Tests.{Passed, of-two, of-take}
 
 -- five proofs, one for each queue
 pub by-queue : (P : Queue → Type 0) → P Cmd → P Cmdr → P Sdo → P Sdi → P Ibi → (k : Queue) → P k
@@ -72,7 +72,10 @@ read-fits s absent e = fits-none s
 read-fits s (shows f) e = fits-none s
 read-fits s (holds c) e = fits-none s
 read-fits s (pushes q) e = fits-none s
-read-fits s (takes q) e = fits-only s q (take 1) (one-there (of q (s .queues)) (e .0))
+read-fits s (takes q) e =
+    of-take (λ d. AllFit (effect d .ops) (s .queues)) q s
+    (λ f. fits-none s)
+    (λ f. fits-only s q (take 1) (one-there (of q (s .queues)) f))
 read-fits s enables e = fits-none s
 read-fits s acknowledges e = fits-none s
 

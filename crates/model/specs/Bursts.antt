@@ -25,7 +25,7 @@ opening s k = let c = Single (getD (s .tables .commands) k 0) in begun c (attach
 
 -- the control bits where the burst stands at command n, counted from 1; 0 closes it
 abbrev pub burstAt : ℕ → Control → Control
-burstAt n c = record { held = c .held; sync = c .sync; ibisync = c .ibisync; cmdrpending = c .cmdrpending; ibipending = c .ibipending; daapending = c .daapending; burst = n }
+burstAt n c = record { held = c .held; sync = c .sync; ibisync = c .ibisync; cmdrpending = c .cmdrpending; ibipending = c .ibipending; daapending = c .daapending; burst = n; latest = c .latest }
 
 -- the lent output has fewer words than the burst of OPS and the offload commands has reads
 abbrev pub outputShort : View → Bool

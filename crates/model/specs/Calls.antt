@@ -124,7 +124,7 @@ padded p = reading p && ltb (transfer p .moved .0 / 4) (wordsFor (transfer p .mo
 
 -- `receipt.sync`, `source.receipt`: a receipt raises the sync, modulo 256, and sets pending bit 5
 abbrev pub receipted : Control → Control
-receipted c = record { held = c .held; sync = (c .sync + 1) % 256; ibisync = c .ibisync; cmdrpending = true; ibipending = c .ibipending; daapending = c .daapending; burst = c .burst }
+receipted c = record { held = c .held; sync = (c .sync + 1) % 256; ibisync = c .ibisync; cmdrpending = true; ibipending = c .ibipending; daapending = c .daapending; burst = c .burst; latest = c .latest }
 
 -- `finish.removal`: a write that ends with 4, 6 or 8 takes its payload out of SDO. ENTDAA is no write (`command.entdaa`), and a burst ends
 -- by `burstFinish`.
@@ -152,7 +152,7 @@ finish s code =
 -- ── Interrupt request ─────────────────────────────────────────────────────────────────────────────────────────
 -- `interrupt.entry`, `source.interrupt`: an accepted interrupt raises the sync of the entries, modulo 256, and sets pending bit 6
 abbrev pub interrupted : Control → Control
-interrupted c = record { held = c .held; sync = c .sync; ibisync = (c .ibisync + 1) % 256; cmdrpending = c .cmdrpending; ibipending = true; daapending = c .daapending; burst = c .burst }
+interrupted c = record { held = c .held; sync = c .sync; ibisync = (c .ibisync + 1) % 256; cmdrpending = c .cmdrpending; ibipending = true; daapending = c .daapending; burst = c .burst; latest = c .latest }
 
 -- `interrupt.tests`, `interrupt.entry`. Of IBI_CONFIG bit 1 is listen and bit 0 enable (`ibi-config.keeps`); the device's flags are as
 -- `device` has them.

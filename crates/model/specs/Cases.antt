@@ -56,7 +56,7 @@ rounds (suc n) = Write 0xd4 0x10 ∷ Start ∷ Finish 0 ∷ Read 0xd8 ∷ rounds
 unfoldable pub worked : Case
 worked =
     [] then Write 0x040 0 ⇝ 0 · 0 ∷ Write 0x180 0x1102 ⇝ 0 · 0 ∷ Write 0xdc 0xa5c30000 ⇝ 0 · 0 ∷ Write 0xd4 0x210 ⇝ 0 · 0 ∷ Start ⇝ 0x210 · 0
-    ∷ Send ⇝ 0xa5 · 0 ∷ Send ⇝ 0xc3 · 0 ∷ Finish 0 ⇝ 0x200 · 0 ∷ Read 0xd8 ⇝ 0x200 · 0 ∷ Read 0xd8 ⇝ 0 · 3 ∷ []
+    ∷ Send ⇝ 0xa5 · 0 ∷ Send ⇝ 0xc3 · 0 ∷ Finish 0 ⇝ 0x200 · 0 ∷ Read 0xd8 ⇝ 0x200 · 0 ∷ Read 0xd8 ⇝ 0x200 · 3 ∷ []
 
 -- a write of two bytes sends no third: 11 of `send.tests`
 unfoldable pub thirdByte : Case

@@ -28,7 +28,7 @@ only Ibi o = each keep keep keep keep o
 -- the answer and all that a call changes
 pub record Effect : Type 0 where
   pub value : ℕ
-  pub number : ℕ  -- 0 or 19; of a refusal, its number
+  pub number : ℕ  -- 0, 3 or 19; of a refusal, its number
   pub regs : Regs
   pub control : Control
   pub phase : Phase

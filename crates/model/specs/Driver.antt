@@ -20,7 +20,7 @@ use Rattle.bank.specs.Bits.{bit, bits, wordIf}
 use Rattle.model.specs.View.{View, Queue, Cmdr, Sdo, Ibi, of, full, last}
 use Rattle.model.specs.Commands.{receiptWord}
 use Rattle.model.specs.Calls.{padded}
-use Rattle.model.specs.Registers.{Cell, scratch, mask, ops, ibiConfig, devChar, offloadCmd, offloadSdo, Row, absent, shows, holds, pushes, takes, enables, acknowledges, burstHolds, row}
+use Rattle.model.specs.Registers.{Cell, scratch, mask, ops, ibiConfig, devChar, offloadCmd, offloadSdo, Row, absent, shows, holds, pushes, takes, enables, acknowledges, burstHolds, row, notedIn}
 use Rattle.model.specs.Engine.{step, Lent, lending, final}
 use Rattle.model.specs.Rings.{Controller, areas, wordsIn, viewRings, rings}
 use Rattle.model.specs.Laws.{freshController, sameQueue}
@@ -85,8 +85,8 @@ unfoldable pub ReadChangesNothing : Type 0
 ReadChangesNothing = (l : Controller) (o : ℕ) → takesWord (row (registerAt o)) ≡ false → step rings l (Read o) .next ≡ l
 
 -- `take.read`, of those three: its first word, which is the value, leaves that queue (OthersStay has the other queues); `source.receipt`,
--- `source.interrupt`: of CMDR and IBI the pending bit is cleared where the queue is then empty
-pub record ControlAfter (q : Queue) (emptied : Bool) (c d : Control) : Type 0 where
+-- `source.interrupt`: of CMDR and IBI the pending bit is cleared where the queue is then empty; `take.empty`: the word is the one last read
+pub record ControlAfter (q : Queue) (emptied : Bool) (value : ℕ) (c d : Control) : Type 0 where
   pub held : d .held ≡ c .held
   pub sync : d .sync ≡ c .sync
   pub ibisync : d .ibisync ≡ c .ibisync
@@ -94,6 +94,7 @@ pub record ControlAfter (q : Queue) (emptied : Bool) (c d : Control) : Type 0 wh
   pub ibipending : d .ibipending ≡ cond (sameQueue Ibi q && emptied) false (c .ibipending)
   pub daapending : d .daapending ≡ c .daapending
   pub burst : d .burst ≡ c .burst
+  pub latest : d .latest ≡ notedIn q value (c .latest)
 
 abbrev pub heldWords : Queue → Controller → List ℕ
 heldWords q l = wordsIn (of q (areas (queuesIn (l .bank)))) (l .store)
@@ -108,7 +109,7 @@ pub record ReadTook (l m : Controller) (value : ℕ) (q : Queue) : Type 0 where
   pub flags : m .bank .flags ≡ l .bank .flags
   pub commands : m .bank .commands ≡ l .bank .commands
   pub payloads : m .bank .payloads ≡ l .bank .payloads
-  pub control : ControlAfter q (last (of q (viewRings l .queues))) (l .bank .state .control) (m .bank .state .control)
+  pub control : ControlAfter q (last (of q (viewRings l .queues))) value (l .bank .state .control) (m .bank .state .control)
 
 -- SDO is excluded: no register takes from it
 unfoldable pub ReadTakesOne : Type 0

@@ -56,10 +56,15 @@ WrongLength =
     (l : Controller) (c : Call) → wellFormed (l .bank) ≡ true → (length (l .store) ≡ total (l .bank .state .caps) → ⊥)
     → step rings l c ≡ refusedStep l number.storeLength
 
--- `answer.refusal`: any number but 0 and 19 comes with the value 0, and bank, store and output are as before
+-- `answer.refusal`: with any number but 0 and 19 bank, store and output are as before
 unfoldable pub RefusalChangesNothing : Type 0
 RefusalChangesNothing =
-    (l : Controller) (c : Call) → let r = step rings l c in (r .answer .number ≡ 0 → ⊥) → (r .answer .number ≡ number.wrongParity → ⊥) → (r .next ≡ l) × (r .answer .value ≡ 0)
+    (l : Controller) (c : Call) → let r = step rings l c in (r .answer .number ≡ 0 → ⊥) → (r .answer .number ≡ number.wrongParity → ⊥) → r .next ≡ l
+
+-- `answer.refusal`, `take.empty`: any number but 0, 3 and 19 comes with the value 0
+unfoldable pub RefusalShowsNothing : Type 0
+RefusalShowsNothing =
+    (l : Controller) (c : Call) → let r = step rings l c in (r .answer .number ≡ 0 → ⊥) → (r .answer .number ≡ number.empty → ⊥) → (r .answer .number ≡ number.wrongParity → ⊥) → r .answer .value ≡ 0
 
 -- `formed.kept`: set-up answered 0 gives a well-formed bank, every call keeps it so, and store and output keep their lengths
 unfoldable pub SetUpWellFormed : Type 0

@@ -15,5 +15,6 @@ pub mod BurstCases
 pub mod Tallies
 pub mod Driver
 pub mod Removal
+pub mod EmptyRead
 pub mod Endings
 pub mod Fits

@@ -5,6 +5,7 @@ use lib.Dec.{ltb}
 use lib.ListN.{getD, set}
 use Rattle.number.specs.Names as number
 use Rattle.bank.specs.declared.Regs.{Regs}
+use Rattle.bank.specs.declared.Latest.{Latest}
 use Rattle.bank.specs.declared.Control.{Control}
 use Rattle.bank.specs.declared.Phase.the-variants.{Idle}
 use Rattle.bank.specs.Phases.{idle}
@@ -14,7 +15,7 @@ use Rattle.registers.specs.declared.Register.{Register}
 use Rattle.registers.specs.declared.Register.the-variants.{Version, Id, Scratch, Enable, IrqMask, IrqPending, IrqSource, CmdRoom, CmdrLevel, SdoRoom, SdiLevel, IbiLevel, CmdFifo, CmdrFifo, SdoFifo, SdiFifo, IbiFifo, FifoStatus, Ops, IbiConfig, DevChar, OffloadCmd, OffloadSdo, Unmapped}
 use Rattle.bank.specs.Bits.{bit, bits, wordIf}
 use Rattle.model.specs.View.{Queue, Cmd, Cmdr, Sdo, Sdi, Ibi, each, of, room, empty, full, last, Tables, View}
-use Rattle.model.specs.Decision.{clear, take, push, only, Effect, unchanged, _withValue_, _withRegs_, _withControl_, _withPhase_, _withTables_, _withQueues_, Decision, does, _⇒_∣_}
+use Rattle.model.specs.Decision.{clear, take, push, only, Effect, unchanged, _withValue_, _withNumber_, _withRegs_, _withControl_, _withPhase_, _withTables_, _withQueues_, Decision, does, _⇒_∣_}
 
 -- the registers that keep what is written
 pub data Cell : Type 0 where
@@ -128,7 +129,7 @@ burstHolds (offloadSdo i) = true
 -- ── Control bits ──────────────────────────────────────────────────────────────────────────────────────────────
 -- the control bits with these pending bits: r is bit 5 (receipt), i bit 6 (interrupt), a bit 7 (address request)
 abbrev pub pending : Bool → Bool → Bool → Control → Control
-pending r i a c = record { held = c .held; sync = c .sync; ibisync = c .ibisync; cmdrpending = r; ibipending = i; daapending = a; burst = c .burst }
+pending r i a c = record { held = c .held; sync = c .sync; ibisync = c .ibisync; cmdrpending = r; ibipending = i; daapending = a; burst = c .burst; latest = c .latest }
 
 -- where b holds, the pending bit of the queue is cleared: of CMDR bit 5 (`source.receipt`), of IBI bit 6 (`source.interrupt`), of SDO bit 7
 -- (`source.address`)
@@ -145,26 +146,56 @@ acknowledged v c = pending (not (bit 5 v) && c .cmdrpending) (not (bit 6 v) && c
 
 -- the control bits out of reset; nothing else of them changes
 abbrev pub released : Control → Control
-released c = record { held = false; sync = c .sync; ibisync = c .ibisync; cmdrpending = c .cmdrpending; ibipending = c .ibipending; daapending = c .daapending; burst = c .burst }
+released c = record { held = false; sync = c .sync; ibisync = c .ibisync; cmdrpending = c .cmdrpending; ibipending = c .ibipending; daapending = c .daapending; burst = c .burst; latest = c .latest }
 
--- bit 0 written to ENABLE: 1 is `enable.reset`, which closes an open burst too (`cleared`) and leaves registers and tables
+-- ── Words last read ───────────────────────────────────────────────────────────────────────────────────────────
+-- `take.empty`: the word last read from a queue since the release, 0 where none was. Nothing is read from CMD and SDO.
+abbrev pub latestOf : Queue → Control → ℕ
+latestOf Cmd c = 0
+latestOf Cmdr c = c .latest .cmdr
+latestOf Sdo c = 0
+latestOf Sdi c = c .latest .sdi
+latestOf Ibi c = c .latest .ibi
+
+abbrev pub notedIn : Queue → ℕ → Latest → Latest
+notedIn Cmd w l = l
+notedIn Cmdr w l = record { cmdr = w; sdi = l .sdi; ibi = l .ibi }
+notedIn Sdo w l = l
+notedIn Sdi w l = record { cmdr = l .cmdr; sdi = w; ibi = l .ibi }
+notedIn Ibi w l = record { cmdr = l .cmdr; sdi = l .sdi; ibi = w }
+
+-- w is the word last read from the queue
+abbrev pub noted : Queue → ℕ → Control → Control
+noted q w c = record { held = c .held; sync = c .sync; ibisync = c .ibisync; cmdrpending = c .cmdrpending; ibipending = c .ibipending; daapending = c .daapending; burst = c .burst; latest = notedIn q w (c .latest) }
+
+-- ── ENABLE ────────────────────────────────────────────────────────────────────────────────────────────────────
+-- bit 0 written to ENABLE: 1 is `enable.reset`, which closes an open burst and forgets the words last read too (`cleared`) and leaves registers and tables
 -- (`enable.keeps`); 0 is `enable.release`
 unfoldable pub enable : View → Bool → Effect
 enable s true = unchanged s withControl cleared true withPhase Idle withQueues each clear clear clear clear clear
 enable s false = unchanged s withControl released (s .control)
 
+-- ── Reads of CMDR, SDI and IBI ────────────────────────────────────────────────────────────────────────────────
+-- `take.read`: the first word leaves the queue and is noted
+abbrev pub taken : Queue → View → Effect
+taken q s =
+    let v = of q (s .queues) in
+    unchanged s withValue v .first withControl noted q (v .first) (clears q (last v) (s .control)) withQueues only q (take 1)
+
+-- `take.empty`: the word noted last is shown once more, with number 3, and nothing changes
+abbrev pub shownAgain : Queue → View → Effect
+shownAgain q s = unchanged s withValue latestOf q (s .control) withNumber number.empty
+
 -- ── Reads and writes, by their row ────────────────────────────────────────────────────────────────────────────
 -- A read, by the register's row (`access.order`; 21 and 22 are the engine's). Without a register it is 4. Of CMDR, SDI and IBI the first
--- word leaves the queue, and 3 is for an empty one (`take.read`); every other read changes nothing (`map.reads`). CMD and SDO give 0
+-- word is taken; an empty one shows its last word again. Every other read changes nothing (`map.reads`). CMD and SDO give 0
 -- (`map.write-only`), ENABLE 1 in reset (`enable.release`), IRQ_PENDING the sources of the mask (`pending.read`).
 abbrev pub read : Row → View → Decision
 read absent s = true ⇒ number.noRegister ∣ does (unchanged s)
 read (shows f) s = does (unchanged s withValue f s)
 read (holds c) s = does (unchanged s withValue shown c s)
 read (pushes q) s = does (unchanged s)
-read (takes q) s =
-    let v = of q (s .queues) in
-    empty v ⇒ number.empty ∣ does (unchanged s withValue v .first withControl clears q (last v) (s .control) withQueues only q (take 1))
+read (takes q) s = cond (empty (of q (s .queues))) (does (shownAgain q s)) (does (taken q s))
 read enables s = does (unchanged s withValue wordIf (s .control .held) 1)
 read acknowledges s = does (unchanged s withValue sources (s .regs .mask) s)
 

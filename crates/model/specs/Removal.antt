@@ -63,6 +63,7 @@ pub record CountedIn (c d : Control) : Type 0 where
   pub ibipending : d .ibipending ≡ c .ibipending
   pub daapending : d .daapending ≡ c .daapending
   pub burst : d .burst ≡ c .burst
+  pub latest : d .latest ≡ c .latest
 
 -- l before it, m after it, r its value: the receipt is queued and counted, the transfer closes, and no other word, queue, pending bit or
 -- register moves

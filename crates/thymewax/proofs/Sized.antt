@@ -7,8 +7,8 @@ use borrow.Author.Tests.{eqb-true}
 use Rattle.bank.proofs.Bools.{and-true}
 use Rattle.image_model.specs.Image.{Kept, sized, isKept}
 
-pub long : (k : Kept) → sized k ≡ true → length (k .image) ≡ 40
-long k s = eqb-true (length (k .image)) 40 (and-true (eqb (length (k .image)) 40) (eqb (length (k .flags)) 128 && (eqb (length (k .commands)) 16 && eqb (length (k .payloads)) 16)) s .0)
+pub long : (k : Kept) → sized k ≡ true → length (k .image) ≡ 43
+long k s = eqb-true (length (k .image)) 43 (and-true (eqb (length (k .image)) 43) (eqb (length (k .flags)) 128 && (eqb (length (k .commands)) 16 && eqb (length (k .payloads)) 16)) s .0)
 
 pub not-kept : (k : Kept) → sized k ≡ false → isKept k ≡ false
 unfolding isKept

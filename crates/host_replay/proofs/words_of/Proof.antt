@@ -10,10 +10,10 @@ use Rattle.host_replay.proofs.words_of.Statement.{statement}
 use Rattle.host_replay.proofs.words_of.Tie as tie
 
 abbrev Inv-loop : tie.InvT-loop
-Inv-loop image ws₀ i₀ ws i = (i ≤ 40) × (length ws ≡ 40) × (length ws₀ ≡ 40) × (length image ≡ 40) × (ws ≡ paste ws₀ 0 image i)
+Inv-loop image ws₀ i₀ ws i = (i ≤ 43) × (length ws ≡ 43) × (length ws₀ ≡ 43) × (length image ≡ 43) × (ws ≡ paste ws₀ 0 image i)
 
 abbrev μ-loop : tie.MeasureT-loop
-μ-loop image ws₀ i₀ ws i = 40 - i
+μ-loop image ws₀ i₀ ws i = 43 - i
 
 returns : tie.Need-returns Inv-loop μ-loop
 returns c = (search needs, λ e. absurd (c .if1 .taken e))
@@ -42,7 +42,7 @@ loop-less c = search needs
 loop-again : tie.Need-loop-again Inv-loop μ-loop
 loop-again c =
     let l = c .before .before .loop in
-    let t : l .i < 40 = c .before .loop-test .taken in (
+    let t : l .i < 43 = c .before .loop-test .taken in (
       omega (arith, t),
       length-set (l .ws) (l .i) _ ∙ l .inv .1,
       l .inv .2,

@@ -10,10 +10,10 @@ use Rattle.image_words.proofs.encode.Statement.{statement}
 use Rattle.image_words.proofs.encode.Tie as tie
 
 abbrev Inv-loop : tie.InvT-loop
-Inv-loop image₀ ws i₀ image i = (i ≤ 40) × (length image ≡ length image₀) × (length ws ≡ 40) × (length image₀ ≡ 40) × (image ≡ paste image₀ 0 ws i)
+Inv-loop image₀ ws i₀ image i = (i ≤ 43) × (length image ≡ length image₀) × (length ws ≡ 43) × (length image₀ ≡ 43) × (image ≡ paste image₀ 0 ws i)
 
 abbrev μ-loop : tie.MeasureT-loop
-μ-loop image₀ ws i₀ image i = 40 - i
+μ-loop image₀ ws i₀ image i = 43 - i
 
 state-words-requires : tie.Need-state-words-requires Inv-loop μ-loop
 state-words-requires c κs = search needs
@@ -42,7 +42,7 @@ loop-less c = search needs
 loop-again : tie.Need-loop-again Inv-loop μ-loop
 loop-again c =
     let l = c .before .loop in
-    let t : l .i < 40 = c .loop-test .taken in (
+    let t : l .i < 43 = c .loop-test .taken in (
       omega (arith, t),
       length-set (l .image) (l .i) _ ∙ l .inv .1,
       l .inv .2,

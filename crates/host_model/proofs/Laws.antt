@@ -13,8 +13,8 @@ use Rattle.model.specs.declared.Call.{Call}
 use Rattle.model.specs.declared.Call.the-variants.{Read, Write, Start, Send, Receive, Finish, Interrupt, Request, Take, Trigger}
 use Rattle.model.specs.Engine.{step}
 use Rattle.model.specs.Rings.{Controller, rings}
-use Rattle.model.specs.Laws.{RefusalChangesNothing}
-use Rattle.model.proofs.Laws.{refusal-changes-nothing}
+use Rattle.model.specs.Laws.{RefusalChangesNothing, RefusalShowsNothing}
+use Rattle.model.proofs.Laws.{refusal-changes-nothing, refusal-shows-nothing}
 use Rattle.answer.specs.Given.{controller}
 use Rattle.letters.specs.declared.Parsed.{Parsed}
 use Rattle.letters.specs.declared.Parsed.the-variants.{Named, Skipped}
@@ -35,7 +35,7 @@ use Rattle.image_model.specs.Image.{Kept, keptOf, bankIn, isKept}
 use Rattle.image_model.specs.Laws.{TakenIsKept}
 use Rattle.image_model.proofs.Laws.{taken-is-kept}
 use Rattle.host_model.specs.Host.{triggers, hosted, refusal, stepIn, Replayed, bankFor, keptAfter, tells, toldIn, leftBy, replayIn, sectionIn}
-use Rattle.host_model.specs.Laws.{CalledIsNamed, NotKeptIsRefused, RefusedStays, RefusedReplayStays, RefusedSectionStays, DoneIsTold, FoundIsPlaced, NothingCut}
+use Rattle.host_model.specs.Laws.{CalledIsNamed, NotKeptIsRefused, RefusedStays, RefusedSilent, RefusedReplayStays, RefusedSectionStays, DoneIsTold, FoundIsPlaced, NothingCut}
 use Rattle.host_model.proofs.Calling.{recorded, triggered}
 use Rattle.host_model.proofs.Hosting.{no-bank, untold, is-told, is-placed}
 
@@ -96,23 +96,30 @@ not-kept-is-refused k e = (
 )
 
 -- ── A refusal changes nothing ─────────────────────────────────────────────────────────────────────────────────
-stays : (k : Kept) (st o : List ℕ) (c : Call) → keptOf (bankIn k) ≡ k → (let h = hosted (step rings (controller (bankIn k) st o) c) in let n = h .answer .number in (n ≡ 0 → ⊥) → (n ≡ 19 → ⊥) → h ≡ refusal n k st o)
+stays : (k : Kept) (st o : List ℕ) (c : Call) → keptOf (bankIn k) ≡ k → (let h = hosted (step rings (controller (bankIn k) st o) c) in let n = h .answer .number in (n ≡ 0 → ⊥) → (n ≡ 19 → ⊥) → h ≡ record { answer = h .answer; kept = k; store = st; output = o })
 unfolding RefusalChangesNothing
 stays k st o c e z t =
     let s = step rings (controller (bankIn k) st o) c in
-    let r = refusal-changes-nothing (controller (bankIn k) st o) c z t in
-    ap (λ (l : Controller). hosted (record { answer = s .answer; next = l })) (r .0)
-    ∙ ap (λ (v : ℕ). hosted (record { answer = record { value = v; number = s .answer .number }; next = controller (bankIn k) st o })) (r .1)
-    ∙ ap (λ (x : Kept). refusal (s .answer .number) x st o) e
+    ap (λ (l : Controller). hosted (record { answer = s .answer; next = l })) (refusal-changes-nothing (controller (bankIn k) st o) c z t)
+    ∙ ap (λ (x : Kept). record { answer = s .answer; kept = x; store = st; output = o }) e
 
 pub refused-stays : RefusedStays
 unfolding RefusedStays stepIn TakenIsKept
 refused-stays p k st o = go (isKept k) refl p
   where
-    go : (b : Bool) → isKept k ≡ b → (p : Parsed) → (let h = stepIn p k st o in let n = h .answer .number in (n ≡ 0 → ⊥) → (n ≡ 19 → ⊥) → h ≡ refusal n k st o)
+    go : (b : Bool) → isKept k ≡ b → (p : Parsed) → (let h = stepIn p k st o in let n = h .answer .number in (n ≡ 0 → ⊥) → (n ≡ 19 → ⊥) → h ≡ record { answer = h .answer; kept = k; store = st; output = o })
     go false e p = rw e (λ z t. refl)
     go true e Skipped = rw e (λ z t. refl)
     go true e (Named c) = rw e (stays k st o c (taken-is-kept k e .1))
+
+pub refused-silent : RefusedSilent
+unfolding RefusedSilent RefusalShowsNothing stepIn
+refused-silent p k st o = go (isKept k) refl p
+  where
+    go : (b : Bool) → isKept k ≡ b → (p : Parsed) → (let h = stepIn p k st o in let n = h .answer .number in (n ≡ 0 → ⊥) → (n ≡ 3 → ⊥) → (n ≡ 19 → ⊥) → h .answer .value ≡ 0)
+    go false e p = rw e (λ z s t. refl)
+    go true e Skipped = rw e (λ z s t. refl)
+    go true e (Named c) = rw e (refusal-shows-nothing (controller (bankIn k) st o) c)
 
 -- a look-up that is not refused is told by 0 or 27
 told-done : (w : Bool) (n m : ℕ) → n ≡ 0 → m ≡ cond (eqb n 0) (cond w 27 0) n → (m ≡ 0 → ⊥) → (m ≡ 27 → ⊥) → ⊥

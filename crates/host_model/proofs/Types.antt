@@ -21,7 +21,7 @@ use Rattle.model.specs.Calls.{start, send, receive, finish, interrupt, request,
 use Rattle.model.specs.Bursts.{trigger, burstSend, burstReceive, burstFinish, decide}
 use Rattle.model.specs.Engine.{step}
 use Rattle.model.specs.Rings.{Controller, viewRings, settleRings, rings}
-use Rattle.model.proofs.Tests.{of-two}
+use Rattle.model.proofs.Tests.{of-take, of-two}
 use Rattle.model.proofs.Laws.{by-outcome}
 use Rattle.answer.specs.Given.{controller}
 use Rattle.image_model.proofs.Laws.{Typed, typed-of, typed-is}
@@ -99,7 +99,7 @@ read-in s absent h = h
 read-in s (shows f) h = h
 read-in s (holds c) h = h
 read-in s (pushes q) h = h
-read-in s (takes q) h = record { regs = h .regs; control = clears-in q _ (s .control) (h .control); tables = h .tables }
+read-in s (takes q) h = of-take Keeps q s (λ e. h) (λ e. let c = clears-in q _ (s .control) (h .control) in record { regs = h .regs; control = record { sync = c .sync; ibisync = c .ibisync; burst = c .burst }; tables = h .tables })
 read-in s enables h = h
 read-in s acknowledges h = h
 

@@ -31,9 +31,13 @@ NotKeptIsRefused = (k : Kept) → isKept k ≡ false
     → ((p : Parsed) (st o : List ℕ) → stepIn p k st o ≡ refusal number.notWellFormed k st o)
     × ((file : List ℕ) (i limit : ℕ) (st ts : List ℕ) → (let t = all21 file i limit in replayIn file i limit k st ts ≡ record { number = t .number; kept = k; store = st; told = toldIn t ts }))
 
--- a number other than 0 and 19: image, tables, store and output are as they were, and the value is 0
+-- a number other than 0 and 19: image, tables, store and output are as they were
 unfoldable pub RefusedStays : Type 0
-RefusedStays = (p : Parsed) (k : Kept) (st o : List ℕ) → (let n = stepIn p k st o .answer .number in (n ≡ 0 → ⊥) → (n ≡ 19 → ⊥) → stepIn p k st o ≡ refusal n k st o)
+RefusedStays = (p : Parsed) (k : Kept) (st o : List ℕ) → (let h = stepIn p k st o in let n = h .answer .number in (n ≡ 0 → ⊥) → (n ≡ number.wrongParity → ⊥) → h ≡ record { answer = h .answer; kept = k; store = st; output = o })
+
+-- a number other than 0, 3 and 19: the value is 0
+unfoldable pub RefusedSilent : Type 0
+RefusedSilent = (p : Parsed) (k : Kept) (st o : List ℕ) → (let h = stepIn p k st o in let n = h .answer .number in (n ≡ 0 → ⊥) → (n ≡ number.empty → ⊥) → (n ≡ number.wrongParity → ⊥) → h .answer .value ≡ 0)
 
 -- likewise a replay, but for 27, which leaves what the records before it left, and the look-up of a section: all that is lent, the words for what is told too
 unfoldable pub RefusedReplayStays : Type 0

@@ -55,12 +55,12 @@ pub fn is_encoded(image: &[u32]) -> bool
                                             & (is_bit(image, 31)
                                                 & (is_byte(image, 32)
                                                     & is_phase(
-                                                        image[33],
-                                                        image[34],
-                                                        image[35],
                                                         image[36],
                                                         image[37],
                                                         image[38],
                                                         image[39],
+                                                        image[40],
+                                                        image[41],
+                                                        image[42],
                                                     ))))))))))))
 }

@@ -83,6 +83,7 @@ state-back s k h =
             ibipending = bit-back (c .ibipending) i;
             daapending = bit-back (c .daapending) i;
             burst = byte-back (c .burst) (h .burst) i;
+            latest = c .latest;
           };
       phase = phase-back (s .phase) i;
     }

@@ -155,7 +155,7 @@ module _ (ws : List ℕ) where
   abbrev pub field-tests : Bool
   field-tests =
       byte 20 && (byte 22 && (byte 23 && (byte 24 && (byte 25 && (bit 26 && (byte 27 && (byte 28 && (bit 29 && (bit 30 && (bit 31 && (byte 32
-      && phase-test (w 34) (w 35) (w 36) (w 37) (w 38) (w 39) (w 33))))))))))))
+      && phase-test (w 37) (w 38) (w 39) (w 40) (w 41) (w 42) (w 36))))))))))))
 
   pub encoded-by-fields : length ws ≡ 43 → field-tests ≡ encoded ws
   unfolding encoded

@@ -84,7 +84,7 @@ parity-not-3 true x y i j h = omega (arith, i, h)
 parity-not-3 false x y i j h = omega (arith, j, h)
 
 -- an effect of number 3 changes nothing
-abbrev StaysAt3 : Controller → Decision → Type 0
+abbrev pub StaysAt3 : Controller → Decision → Type 0
 StaysAt3 l d = effect d .number ≡ 3 → settleRings l (effect d) ≡ l
 
 read-at-3 : (l : Controller) (x : Row) → StaysAt3 l (read x (viewRings l))
@@ -97,7 +97,7 @@ read-at-3 l (takes q) e = of-take (StaysAt3 l) q (viewRings l) (λ f i. refl) (�
 read-at-3 l enables e = refl
 read-at-3 l acknowledges e = refl
 
-stays-at-3 : (l : Controller) (c : Call) → StaysAt3 l (decide (viewRings l) c)
+pub stays-at-3 : (l : Controller) (c : Call) → StaysAt3 l (decide (viewRings l) c)
 unfolding start send receive finish interrupt request takeAddress trigger burstSend burstReceive burstFinish
 stays-at-3 l (Read o) e = read-at-3 l (row (registerAt o)) e
 stays-at-3 l (Write o v) e = absurd (not-3 _ (write-number (viewRings l) (row (registerAt o)) v) e)

@@ -22,9 +22,10 @@ use Rattle.model.specs.Calls.{start, send, receive, finish, interrupt, request,
 use Rattle.model.specs.Bursts.{trigger, burstSend, burstReceive, burstFinish, decide}
 use Rattle.model.specs.Engine.{outcome, step}
 use Rattle.model.specs.Rings.{Controller, viewRings, settleRings, guardRings, rings}
-use Rattle.model.proofs.Tests.{of-two}
-use Rattle.model.proofs.Numbers.{read-number, write-number}
-use Rattle.numbers_model.specs.Numbers.{numbers, ends, among, inOrder, tested, Answered, Demand1}
+use Rattle.model.proofs.Tests.{of-two, of-take}
+use Rattle.model.proofs.Numbers.{emptied, read-number, write-number}
+use Rattle.model.proofs.Laws.{stays-at-3}
+use Rattle.numbers_model.specs.Numbers.{numbers, ends, shown, among, inOrder, tested, Answered, Demand1}
 
 -- ── The order ─────────────────────────────────────────────────────────────────────────────────────────────────
 -- behind the two tests of bank and store
@@ -36,7 +37,7 @@ read-within s absent = refl
 read-within s (shows f) = refl
 read-within s (holds c) = refl
 read-within s (pushes q) = refl
-read-within s (takes q) = refl
+read-within s (takes q) = of-take (Within (4 ∷ 3 ∷ [])) q s (λ e. refl) (λ e. refl)
 read-within s enables = refl
 read-within s acknowledges = refl
 
@@ -75,10 +76,6 @@ or-left : (a b c : Bool) → (b ≡ true → c ≡ true) → (a || b) ≡ true �
 or-left true b c f e = refl
 or-left false b c f e = f e
 
-among-left : (n : ℕ) (ks ms : List ℕ) → among n ks ≡ true → among n (ks ++ ms) ≡ true
-among-left n [] ms e = absurd (false≢true e)
-among-left n (k ∷ ks) ms e = or-left (eqb n k) (among n ks) (among n (ks ++ ms)) (among-left n ks ms) e
-
 -- by whether the first of the list is the first of the other
 met : (n k m : ℕ) (in-rest rest : Bool) (b : Bool) → eqb k m ≡ b → (b ≡ true → in-rest ≡ true → rest ≡ true) → (b ≡ false → rest ≡ true) → (eqb n k || in-rest) ≡ true → (eqb n m || rest) ≡ true
 met n k m in-rest rest true e f g h = let z = eqb-true k m e in or-left (eqb n m) in-rest rest (f refl) (subst (λ (x : ℕ). (eqb n x || in-rest) ≡ true) z h)
@@ -106,16 +103,16 @@ first-tested (does e) n h = absurd (Option·none-ne-some n h)
 first-tested (true ⇒ m ∣ d) n h = ap (λ (b : Bool). b || among n (tested d)) (let z = Option·some-injective m n h in eqb-same n (eqb n m) (ap (λ (x : ℕ). eqb n x) (sym z)))
 first-tested (false ⇒ m ∣ d) n h = or-right (eqb n m) (among n (tested d)) (first-tested d n h)
 
-take-ends : (b : Bool) → among (cond b 0 19) (0 ∷ 19 ∷ []) ≡ true
-take-ends true = refl
-take-ends false = refl
+one-of : (b : Bool) (m n : ℕ) (ns : List ℕ) → among m ns ≡ true → among n ns ≡ true → among (cond b m n) ns ≡ true
+one-of true m n ns h k = h
+one-of false m n ns h k = k
 
 abbrev Ends : List ℕ → Decision → Type 0
 Ends ns d = among (effect d .number) ns ≡ true
 
-ended : (s : View) (c : Call) → Ends (ends c) (decide s c)
+ended : (s : View) (c : Call) → Ends (ends c ++ shown c) (decide s c)
 unfolding start send receive finish interrupt request takeAddress trigger burstSend burstReceive burstFinish
-ended s (Read o) = rw (read-number s (row (registerAt o)))
+ended s (Read o) = rw (read-number s (row (registerAt o))) (one-of (emptied (row (registerAt o)) s) 3 0 (0 ∷ 3 ∷ []) refl refl)
 ended s (Write o v) = rw (write-number s (row (registerAt o)) v)
 ended s Start = refl
 ended s Send = of-two (Ends (0 ∷ [])) (bursting (s .control)) (burstSend s) (send s) (λ e. refl) (λ e. refl)
@@ -123,8 +120,39 @@ ended s (Receive b) = of-two (Ends (0 ∷ [])) (bursting (s .control)) (burstRec
 ended s (Finish code) = of-two (Ends (0 ∷ [])) (bursting (s .control)) (burstFinish s code) (finish s code) (λ e. refl) (λ e. refl)
 ended s (Interrupt a b) = refl
 ended s (Request v w) = refl
-ended s Take = take-ends (eqb (ones (s .queues .sdo .first / 2 ^ 24) % 2) 1)
+ended s Take = one-of (eqb (ones (s .queues .sdo .first / 2 ^ 24) % 2) 1) 0 19 (0 ∷ 19 ∷ []) refl refl
 ended s Trigger = refl
+
+-- the numbers of effects are in the table
+in-table : (c : Call) → inOrder (ends c ++ shown c) (ends c ++ numbers c) ≡ true
+in-table (Read o) = refl
+in-table (Write o v) = refl
+in-table Start = refl
+in-table Send = refl
+in-table (Receive b) = refl
+in-table (Finish code) = refl
+in-table (Interrupt a b) = refl
+in-table (Request v w) = refl
+in-table Take = refl
+in-table Trigger = refl
+
+-- an effect that has no number of `ends` has 3
+three-of : (c : Call) (n : ℕ) → among n (ends c ++ shown c) ≡ true → among n (ends c) ≡ false → n ≡ 3
+three-of (Read o) n h f = eqb-true n 3 (last-of (eqb n 0) (eqb n 3) h f)
+  where
+    last-of : (a b : Bool) → (a || (b || false)) ≡ true → (a || false) ≡ false → b ≡ true
+    last-of true b h f = absurd (false≢true (sym f))
+    last-of false true h f = refl
+    last-of false false h f = absurd (false≢true h)
+three-of (Write o v) n h f = absurd (false≢true (sym f ∙ h))
+three-of Start n h f = absurd (false≢true (sym f ∙ h))
+three-of Send n h f = absurd (false≢true (sym f ∙ h))
+three-of (Receive b) n h f = absurd (false≢true (sym f ∙ h))
+three-of (Finish code) n h f = absurd (false≢true (sym f ∙ h))
+three-of (Interrupt a b) n h f = absurd (false≢true (sym f ∙ h))
+three-of (Request v w) n h f = absurd (false≢true (sym f ∙ h))
+three-of Take n h f = absurd (false≢true (sym f ∙ h))
+three-of Trigger n h f = absurd (false≢true (sym f ∙ h))
 
 -- of a step: the number of the first test, or of the effect
 module _ (l : Controller) (c : Call) where
@@ -136,16 +164,24 @@ module _ (l : Controller) (c : Call) where
   numbered = go (first decision) refl
     where
       go : (k : Option ℕ) → first decision ≡ k → among (outcome k (effect decision) l (settleRings l (effect decision)) .answer .number) (ends c ++ numbers c) ≡ true
-      go none e = among-left (effect decision .number) (ends c) (numbers c) (ended (viewRings l) c)
+      go none e = within-among (effect decision .number) (ends c ++ shown c) (ends c ++ numbers c) (in-table c) (ended (viewRings l) c)
       go (some n) e = among-right n (ends c) (numbers c) (within-among n (tested decision) (numbers c) (ordered l c) (first-tested decision n e))
 
-  unchanged : among (step rings l c .answer .number) (ends c) ≡ false → (step rings l c .next ≡ l) × (step rings l c .answer .value ≡ 0)
+  unchanged : among (step rings l c .answer .number) (ends c) ≡ false → step rings l c .next ≡ l
   unfolding step guardRings
   unchanged = go (first decision) refl
     where
-      go : (k : Option ℕ) → first decision ≡ k → let r = outcome k (effect decision) l (settleRings l (effect decision)) in among (r .answer .number) (ends c) ≡ false → (r .next ≡ l) × (r .answer .value ≡ 0)
+      go : (k : Option ℕ) → first decision ≡ k → let r = outcome k (effect decision) l (settleRings l (effect decision)) in among (r .answer .number) (ends c) ≡ false → r .next ≡ l
+      go none e f = stays-at-3 l c (three-of c (effect decision .number) (ended (viewRings l) c) f)
+      go (some n) e f = refl
+
+  silent : among (step rings l c .answer .number) (ends c ++ shown c) ≡ false → step rings l c .answer .value ≡ 0
+  unfolding step guardRings
+  silent = go (first decision) refl
+    where
+      go : (k : Option ℕ) → first decision ≡ k → let r = outcome k (effect decision) l (settleRings l (effect decision)) in among (r .answer .number) (ends c ++ shown c) ≡ false → r .answer .value ≡ 0
       go none e f = absurd (false≢true (sym f ∙ ended (viewRings l) c))
-      go (some n) e f = (refl, refl)
+      go (some n) e f = refl
 
 -- ── Set-up ────────────────────────────────────────────────────────────────────────────────────────────────────
 set-up : (c m : Sizes) (id : ℕ) → (among (setUp c m id .answer .number) (0 ∷ 23 ∷ []) ≡ true) × (setUp c m id .answer .value ≡ 0)
@@ -157,4 +193,4 @@ set-up c m id = go (leb id 255 && sizesOk c m)
     go false = (refl, refl)
 
 pub demand-1 : Demand1
-demand-1 = record { calls = λ l c. record { ordered = ordered l c; numbered = numbered l c; unchanged = unchanged l c }; setUps = set-up }
+demand-1 = record { calls = λ l c. record { ordered = ordered l c; numbered = numbered l c; unchanged = unchanged l c; silent = silent l c }; setUps = set-up }

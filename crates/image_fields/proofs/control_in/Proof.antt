@@ -3,6 +3,9 @@ use borrow.Author.Needs.{needs}
 use Rattle.image_fields.proofs.control_in.Statement.{statement}
 use Rattle.image_fields.proofs.control_in.Tie as tie
 
+latest-in-requires : tie.Need-latest-in-requires
+latest-in-requires c κs = search needs
+
 bit-in-requires : tie.Need-bit-in-requires
 bit-in-requires c κs = search needs
 
@@ -31,6 +34,7 @@ pub control-in-spec : {M : Type 1} → statement M
 control-in-spec =
     tie.close
     (tie.spec
+    latest-in-requires
     bit-in-requires
     byte-in-requires
     byte-in-requires-2

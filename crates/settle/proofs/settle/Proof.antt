@@ -16,8 +16,12 @@ done-requires c κs = search needs
 same-length : tie.Need-same-length
 same-length c = search needs
 
+-- the output is as `put_table` left it; it is named, since a search enters no more than 128 records
 same-length-2 : tie.Need-same-length-2
-same-length-2 c = search needs
+same-length-2 c =
+    let moved = c .before .before .before .before .before .before in
+    let lent = moved .before .before .before .before .output in
+    search (needs, lent)
 
 returns : tie.Need-returns
 returns c = let moved = c .before .before .before .before .before .before in

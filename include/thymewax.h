@@ -14,7 +14,8 @@
  *
  * Link with libthymewax.a; docs/C.md has the line. There are two layers: the six
  * functions of the archive, on plain memory, and after them inline functions on
- * a handle, struct thymewax. Neither allocates, and neither has globals.
+ * a handle, struct thymewax. Neither allocates, and neither has globals. Before
+ * both stand the names: answers, registers, the fields of words.
  *
  * What holds of every call:
  * - It takes any numbers and any contents of lent memory, and ends with a number.
@@ -82,32 +83,144 @@ enum thymewax_number {
     THYMEWAX_NOT_CARRIED = 29              /* a burst carries private commands of 0 to 4 bytes */
 };
 
-/* The registers, by their offsets. docs/registers.svd has their fields. */
+/* ---- Names of registers, of the fields of words and of their numbers ---- */
+
+/* Written by tools/names.py from docs/registers.toml: do not edit. */
+
+/* The registers, by their offsets; of a memory that of its first word. */
 enum thymewax_register {
-    THYMEWAX_REG_VERSION = 0x000,         /* read-only */
-    THYMEWAX_REG_DEVICE_ID = 0x004,       /* read-only: the ID of the set-up */
-    THYMEWAX_REG_SCRATCH = 0x008,
-    THYMEWAX_REG_ENABLE = 0x040,          /* 1 resets and holds, 0 releases */
-    THYMEWAX_REG_IRQ_MASK = 0x080,
-    THYMEWAX_REG_IRQ_PENDING = 0x084,     /* source AND mask; a 1 clears bit 5, 6 or 7 */
-    THYMEWAX_REG_IRQ_SOURCE = 0x088,      /* read-only */
-    THYMEWAX_REG_CMD_FIFO_ROOM = 0x0c0,   /* read-only, in words, as the next four */
-    THYMEWAX_REG_CMDR_FIFO_LEVEL = 0x0c4,
-    THYMEWAX_REG_SDO_FIFO_ROOM = 0x0c8,
-    THYMEWAX_REG_SDI_FIFO_LEVEL = 0x0cc,
-    THYMEWAX_REG_IBI_FIFO_LEVEL = 0x0d0,
-    THYMEWAX_REG_CMD_FIFO = 0x0d4,        /* a write puts a command word into CMD */
-    THYMEWAX_REG_CMDR_FIFO = 0x0d8,       /* a read takes a receipt from CMDR */
-    THYMEWAX_REG_SDO_FIFO = 0x0dc,        /* a write puts a data word into SDO */
-    THYMEWAX_REG_SDI_FIFO = 0x0e0,        /* a read takes a data word from SDI */
-    THYMEWAX_REG_IBI_FIFO = 0x0e4,        /* a read takes an interrupt from IBI */
-    THYMEWAX_REG_FIFO_STATUS = 0x0e8,     /* read-only: which of SDI, IBI, CMDR are empty */
-    THYMEWAX_REG_OPS = 0x100,             /* speed, offload length, mode */
-    THYMEWAX_REG_IBI_CONFIG = 0x140,      /* write-only: listen, enable */
-    THYMEWAX_REG_DEV_CHAR = 0x180,        /* the device table: address and flags */
-    THYMEWAX_REG_OFFLOAD_CMD = 0x2c0,     /* the first of 16 words, 4 bytes apart */
-    THYMEWAX_REG_OFFLOAD_SDO = 0x300      /* the first of 16 words, 4 bytes apart */
+    THYMEWAX_REG_VERSION = 0x000,         /* version of the peripheral, 0.01.00. Read-only */
+    THYMEWAX_REG_DEVICE_ID = 0x004,       /* the ID that set-up gave, 0 to 255. Read-only */
+    THYMEWAX_REG_SCRATCH = 0x008,         /* a word that software may use as it likes */
+    THYMEWAX_REG_ENABLE = 0x040,          /* a 1 resets and holds, a 0 releases */
+    THYMEWAX_REG_IRQ_MASK = 0x080,        /* which bits of IRQ_SOURCE show in IRQ_PENDING */
+    THYMEWAX_REG_IRQ_PENDING = 0x084,     /* IRQ_SOURCE AND IRQ_MASK; a 1 clears bit 5, 6 or 7 */
+    THYMEWAX_REG_IRQ_SOURCE = 0x088,      /* the interrupts, whatever the mask. Read-only */
+    THYMEWAX_REG_CMD_FIFO_ROOM = 0x0c0,   /* free words of CMD. Read-only */
+    THYMEWAX_REG_CMDR_FIFO_LEVEL = 0x0c4, /* words in CMDR. Read-only */
+    THYMEWAX_REG_SDO_FIFO_ROOM = 0x0c8,   /* free words of SDO. Read-only */
+    THYMEWAX_REG_SDI_FIFO_LEVEL = 0x0cc,  /* words in SDI. Read-only */
+    THYMEWAX_REG_IBI_FIFO_LEVEL = 0x0d0,  /* words in IBI. Read-only */
+    THYMEWAX_REG_CMD_FIFO = 0x0d4,        /* a write puts a command word into CMD. Write-only */
+    THYMEWAX_REG_CMDR_FIFO = 0x0d8,       /* a read takes the first receipt from CMDR. Read-only */
+    THYMEWAX_REG_SDO_FIFO = 0x0dc,        /* a write puts a data word into SDO. Write-only */
+    THYMEWAX_REG_SDI_FIFO = 0x0e0,        /* a read takes the first data word from SDI. Read-only */
+    THYMEWAX_REG_IBI_FIFO = 0x0e4,        /* a read takes the first interrupt from IBI. Read-only */
+    THYMEWAX_REG_FIFO_STATUS = 0x0e8,     /* which queues have nothing to read. Read-only */
+    THYMEWAX_REG_OPS = 0x100,             /* how the controller operates */
+    THYMEWAX_REG_IBI_CONFIG = 0x140,      /* interrupt requests of devices. Write-only */
+    THYMEWAX_REG_DEV_CHAR = 0x180,        /* the device table: an address and its flags */
+    THYMEWAX_REG_OFFLOAD_CMD = 0x2c0,     /* the commands of a burst */
+    THYMEWAX_REG_OFFLOAD_SDO = 0x300      /* the data words of a burst */
 };
+
+/* Reset and release (ENABLE). */
+#define THYMEWAX_ENABLE_RESET 0x00000001u /* 1: held in reset. 0: released */
+
+/* Interrupts of the controller (IRQ_MASK, IRQ_PENDING, IRQ_SOURCE). */
+#define THYMEWAX_IRQ_DAA_PENDING 0x00000080u      /* a device requested an address and SDO was then empty */
+#define THYMEWAX_IRQ_IBI_PENDING 0x00000040u      /* an interrupt request of a device was accepted */
+#define THYMEWAX_IRQ_CMDR_PENDING 0x00000020u     /* a receipt was queued */
+#define THYMEWAX_IRQ_IBI_ALMOST_FULL 0x00000010u  /* the level of IBI is above its watermark */
+#define THYMEWAX_IRQ_SDI_ALMOST_FULL 0x00000008u  /* the level of SDI is above its watermark */
+#define THYMEWAX_IRQ_SDO_ALMOST_EMPTY 0x00000004u /* the level of SDO is below its watermark */
+#define THYMEWAX_IRQ_CMDR_ALMOST_FULL 0x00000002u /* the level of CMDR is above its watermark */
+#define THYMEWAX_IRQ_CMD_ALMOST_EMPTY 0x00000001u /* the level of CMD is below its watermark */
+
+/* The first word of a command (CMD_FIFO, OFFLOAD_CMD). */
+#define THYMEWAX_COMMAND_CCC 0x00400000u            /* 1: a CCC, the next word is its second. 0: private */
+#define THYMEWAX_COMMAND_HEADER 0x00200000u         /* 1: a broadcast header before a private transfer */
+#define THYMEWAX_COMMAND_REPEATED_START 0x00100000u /* 1: it ends with a repeated start. 0: with a stop */
+#define THYMEWAX_COMMAND_LENGTH 0x000fff00u         /* length of the payload in bytes */
+#define THYMEWAX_COMMAND_ADDRESS 0x000000feu        /* address of the device */
+#define THYMEWAX_COMMAND_READ 0x00000001u           /* 1: a read from the device. 0: a write to it */
+
+/* The second word of a CCC. */
+#define THYMEWAX_CCC_CODE 0x000000ffu   /* the code of the CCC */
+#define THYMEWAX_CCC_DIRECT 0x00000080u /* 1: direct. 0: broadcast. A bit of the code */
+
+/* A receipt (CMDR_FIFO). */
+#define THYMEWAX_RECEIPT_ERROR 0x00f00000u  /* how the transfer ended */
+#define THYMEWAX_RECEIPT_LENGTH 0x000fff00u /* bytes moved */
+#define THYMEWAX_RECEIPT_SYNC 0x000000ffu   /* receipts before it since the reset, modulo 256 */
+
+/* An interrupt's entry (IBI_FIFO). */
+#define THYMEWAX_INTERRUPT_ADDRESS 0x00fe0000u /* address of the device */
+#define THYMEWAX_INTERRUPT_DATA 0x0000ff00u    /* the data byte; 0 of a device that sends none */
+#define THYMEWAX_INTERRUPT_SYNC 0x000000ffu    /* entries before it since the reset, modulo 256 */
+
+/* Four bytes of payload, in the order of the bus (SDO_FIFO, SDI_FIFO, OFFLOAD_SDO). */
+#define THYMEWAX_DATA_FIRST 0xff000000u  /* the first byte sent */
+#define THYMEWAX_DATA_SECOND 0x00ff0000u /* the second byte sent */
+#define THYMEWAX_DATA_THIRD 0x0000ff00u  /* the third byte sent */
+#define THYMEWAX_DATA_FOURTH 0x000000ffu /* the fourth byte sent */
+
+/* A word of SDO that an address take takes. */
+#define THYMEWAX_ADDRESS_WORD_ADDRESS 0xfe000000u /* the address */
+#define THYMEWAX_ADDRESS_WORD_PARITY 0x01000000u  /* makes the ones of bits 31:24 an odd number */
+
+/* Queues that are empty (FIFO_STATUS). */
+#define THYMEWAX_STATUS_SDI_EMPTY 0x00000004u  /* 1: SDI is empty */
+#define THYMEWAX_STATUS_IBI_EMPTY 0x00000002u  /* 1: IBI is empty */
+#define THYMEWAX_STATUS_CMDR_EMPTY 0x00000001u /* 1: CMDR is empty */
+
+/* How the controller operates (OPS). */
+#define THYMEWAX_OPS_IDLE 0x00000080u           /* 1: no transfer is open */
+#define THYMEWAX_OPS_SPEED 0x00000060u          /* speed grade in push-pull mode; stored only */
+#define THYMEWAX_OPS_OFFLOAD_LENGTH 0x0000001eu /* number of offload commands in a burst */
+#define THYMEWAX_OPS_OFFLOAD 0x00000001u        /* 0: direct transfers. 1: offload bursts */
+
+/* Interrupt requests of devices (IBI_CONFIG). */
+#define THYMEWAX_IBI_CONFIG_LISTEN 0x00000002u /* 1: interrupt requests are heard */
+#define THYMEWAX_IBI_CONFIG_ENABLE 0x00000001u /* 1: heard requests may be acknowledged */
+
+/* A device and its flags (DEV_CHAR). */
+#define THYMEWAX_DEVICE_ADDRESS 0x0000fe00u       /* the address that is selected */
+#define THYMEWAX_DEVICE_STORE 0x00000100u         /* 1: store the flags too. Reads 0 */
+#define THYMEWAX_DEVICE_SENDS_BYTE 0x00000008u    /* 1: it sends a data byte with an interrupt */
+#define THYMEWAX_DEVICE_MAY_INTERRUPT 0x00000004u /* 1: it may interrupt */
+#define THYMEWAX_DEVICE_ATTACHED 0x00000002u      /* 1: it is attached */
+
+/* Numbers of THYMEWAX_RECEIPT_ERROR. */
+#define THYMEWAX_CODE_NO_ERROR 0u        /* no error */
+#define THYMEWAX_CODE_CE0 1u             /* the length of a CCC was wrong */
+#define THYMEWAX_CODE_CE2 4u             /* no answer to the broadcast address */
+#define THYMEWAX_CODE_NACK 6u            /* the device did not acknowledge */
+#define THYMEWAX_CODE_UNKNOWN_ADDRESS 8u /* the device was not attached */
+
+/* Numbers of THYMEWAX_OPS_SPEED. */
+#define THYMEWAX_SPEED_MHZ_1_56 0u  /* 1.56 MHz with a clock of 100 MHz */
+#define THYMEWAX_SPEED_MHZ_3_12 1u  /* 3.12 MHz with a clock of 100 MHz */
+#define THYMEWAX_SPEED_MHZ_6_25 2u  /* 6.25 MHz with a clock of 100 MHz */
+#define THYMEWAX_SPEED_MHZ_12_50 3u /* 12.50 MHz with a clock of 100 MHz */
+
+/* End of what is written. */
+
+/* A field of a word, and a word with a number in a field; fields are put together
+ * by |. A number that has more bits than its field is cut.
+ *
+ *     if (THYMEWAX_GET(THYMEWAX_RECEIPT_ERROR, receipt) == THYMEWAX_CODE_NACK)
+ *     ops = THYMEWAX_PUT(THYMEWAX_OPS_OFFLOAD_LENGTH, 1) | THYMEWAX_OPS_OFFLOAD;
+ */
+#define THYMEWAX_GET(field, word) (((word) & (field)) / ((field) & (0u - (field))))
+#define THYMEWAX_PUT(field, number) (((number) * ((field) & (0u - (field)))) & (field))
+
+/* The first word of a command: a device, bytes, and bits such as
+ * THYMEWAX_COMMAND_READ, or 0. */
+static inline uint32_t thymewax_command(uint32_t address, uint32_t length, uint32_t bits)
+{
+    return THYMEWAX_PUT(THYMEWAX_COMMAND_ADDRESS, address)
+        | THYMEWAX_PUT(THYMEWAX_COMMAND_LENGTH, length) | bits;
+}
+
+/* A word for DEV_CHAR that stores the flags of a device: THYMEWAX_DEVICE_ATTACHED
+ * and others, or 0. */
+static inline uint32_t thymewax_device(uint32_t address, uint32_t flags)
+{
+    return THYMEWAX_PUT(THYMEWAX_DEVICE_ADDRESS, address) | THYMEWAX_DEVICE_STORE | flags;
+}
+
+/* ---- The calls ---- */
 
 /* The calls, by their letters in ASCII, as a record of a trace has them. No record
  * names the trigger: a replay answers its letter 27, a step takes it. */
@@ -321,17 +434,16 @@ static inline struct thymewax_answer thymewax_receive(struct thymewax *m, uint32
     return thymewax_model_step(m, THYMEWAX_LETTER_RECEIVE, 0, byte, 0);
 }
 
-/* The bus finishes the transfer with a code: 0 without an error; CE0 is 1, CE2 is
- * 4, NACK is 6, an unknown address is 8. The value is the receipt, which goes to
- * CMDR: bits 23:20 the code, 19:8 the bytes moved, 7:0 the sync. In a burst it is
- * 0. */
+/* The bus finishes the transfer with a code, THYMEWAX_CODE_NO_ERROR or another of
+ * them. docs/ENDINGS.md says which when. The value is the receipt, which goes to
+ * CMDR: THYMEWAX_RECEIPT_ERROR and the others. In a burst it is 0. */
 static inline struct thymewax_answer thymewax_finish(struct thymewax *m, uint32_t code)
 {
     return thymewax_model_step(m, THYMEWAX_LETTER_FINISH, 0, code, 0);
 }
 
-/* A device requests an interrupt. The value is the entry, which goes to IBI: bits
- * 23:17 the address, 15:8 the byte, 7:0 its own sync. */
+/* A device requests an interrupt. The value is the entry, which goes to IBI:
+ * THYMEWAX_INTERRUPT_ADDRESS and the others. */
 static inline struct thymewax_answer thymewax_interrupt(struct thymewax *m, uint32_t address,
                                                         uint32_t byte)
 {

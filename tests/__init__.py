@@ -8,7 +8,7 @@
 - `shared`: what tests of several folders use.
 
 A test runs by itself, as `python3 tests/hosts/calls.py`: its first lines put the repository's root
-on the path, and this module the Python package.
+on the path, and this module the Python package and the modules of tools/.
 """
 
 import pathlib
@@ -16,4 +16,4 @@ import sys
 
 ROOT = pathlib.Path(__file__).resolve().parent.parent
 PACKAGE = ROOT / 'bindings/python'
-sys.path.insert(0, str(PACKAGE))
+sys.path[:0] = [str(PACKAGE), str(ROOT / 'tools')]

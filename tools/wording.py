@@ -2,14 +2,15 @@
 
 from collections.abc import Callable, Sequence
 
+import register_table
 from inputs import Made
 from ledger import Data, Entry
-from thymewax import (OFFLOAD_CMD, OFFLOAD_SDO, AddressWord, Call, Ccc, Command, Config, Device,
-                      Image, Interrupt, Irq, Kind, Number, Ops, Phase, Receipt, Register, Status,
-                      name_of)
+from thymewax import (OFFLOAD_CMD, AddressWord, Call, Ccc, Command, Config, Device, Image,
+                      Interrupt, Irq, Kind, Number, Ops, Phase, Receipt, Register, Status, name_of)
 from thymewax.formats import ENTDAA
 
-ERRORS = {0: 'no error', 1: 'CE0', 4: 'CE2', 6: 'NACK', 8: 'unknown address'}
+TABLE = register_table.load()
+CODES = {value.number: value.text for value in TABLE.values['code']}
 ASSIGNING = (Phase.ASSIGNING, Phase.ASSIGNING_REQUEST_OPEN, Phase.ASSIGNING_SOME_ANSWERED)
 PHASES = {
     Phase.WRITING: 'write', Phase.READING: 'read', Phase.ASSIGNING: 'ENTDAA, no request made',
@@ -71,7 +72,7 @@ def receipt(word: int) -> str:
 
 
 def error(code: int) -> str:
-    return ERRORS.get(code, 'code %d' % code)
+    return CODES.get(code, 'code %d' % code)
 
 
 def interrupt(word: int) -> str:
@@ -122,36 +123,46 @@ def sdo_write(value: int, before: Image) -> str:
     return address_word(value) if before.transfer.phase in ASSIGNING else data(value)
 
 
-WRITES: dict[int, Callable[[int], str]] = {
-    Register.ENABLE: lambda value: 'reset and hold' if value & 1 else 'release',
-    Register.IRQ_MASK: lambda value: 'show %s' % bits(Irq(value & 0xff)),
-    Register.IRQ_PENDING: lambda value: 'clear %s' % bits(Irq(value & 0xe0)),
-    Register.OPS: ops,
-    Register.IBI_CONFIG: lambda value: bits(Config(value & 3)),
-    Register.DEV_CHAR: device_write,
+def plain(value: int) -> str:
+    return '%08x' % value
+
+
+# What is written and what is read in words, by what docs/registers.toml has as the register's word.
+WRITTEN_WORDS: dict[str, Callable[[int], str]] = {
+    'number': plain,
+    'enable': lambda value: 'reset and hold' if value & 1 else 'release',
+    'command': lambda value: command([value]),
+    'data': data,
+    'ops': ops,
+    'ibi_config': lambda value: bits(Config(value & 3)),
+    'device': device_write,
 }
-READS: dict[int, Callable[[int], str]] = {
-    Register.ENABLE: lambda value: 'held in reset' if value & 1 else 'released',
-    Register.IRQ_MASK: lambda value: bits(Irq(value)),
-    Register.IRQ_PENDING: lambda value: bits(Irq(value)),
-    Register.IRQ_SOURCE: lambda value: bits(Irq(value)),
-    Register.CMD_FIFO_ROOM: lambda value: 'room for %s' % count(value, 'word'),
-    Register.CMDR_FIFO_LEVEL: lambda value: count(value, 'word'),
-    Register.SDO_FIFO_ROOM: lambda value: 'room for %s' % count(value, 'word'),
-    Register.SDI_FIFO_LEVEL: lambda value: count(value, 'word'),
-    Register.IBI_FIFO_LEVEL: lambda value: count(value, 'word'),
-    Register.CMDR_FIFO: receipt,
-    Register.SDI_FIFO: data,
-    Register.IBI_FIFO: interrupt,
-    Register.FIFO_STATUS: lambda value: bits(Status(value)),
-    Register.OPS: lambda value: '%s, %s' % (
+READ_WORDS: dict[str, Callable[[int], str]] = {
+    'number': plain,
+    'version': plain,
+    'enable': lambda value: 'held in reset' if value & 1 else 'released',
+    'irq': lambda value: bits(Irq(value)),
+    'room': lambda value: 'room for %s' % count(value, 'word'),
+    'level': lambda value: count(value, 'word'),
+    'command': lambda value: command([value]),
+    'receipt': receipt,
+    'data': data,
+    'interrupt': interrupt,
+    'status': lambda value: bits(Status(value)),
+    'ops': lambda value: '%s, %s' % (
         ops(value), 'no transfer open' if Ops.of(value).idle else 'a transfer is open'),
-    Register.DEV_CHAR: device,
+    'device': device,
 }
-for _offset in OFFLOAD_CMD:
-    WRITES[_offset] = READS[_offset] = lambda value: command([value])
-for _offset in OFFLOAD_SDO:
-    WRITES[_offset] = READS[_offset] = data
+# Where registers of one word are written for different ends.
+WRITTEN_TO: dict[str, Callable[[int], str]] = {
+    'IRQ_MASK': lambda value: 'show %s' % bits(Irq(value & 0xff)),
+    'IRQ_PENDING': lambda value: 'clear %s' % bits(Irq(value & 0xe0)),
+}
+# By offset. What a register does not take, or does not show, is told as a number.
+WRITES = {offset: WRITTEN_TO.get(one.name) or WRITTEN_WORDS.get(one.word, plain)
+          for one in TABLE.registers if one.access != 'ro' for offset in one.offsets}
+READS = {offset: READ_WORDS.get(one.word, plain)
+         for one in TABLE.registers if one.access != 'wo' for offset in one.offsets}
 
 
 def write(call: Call, before: Image, awaits_second: bool) -> str:
@@ -160,7 +171,7 @@ def write(call: Call, before: Image, awaits_second: bool) -> str:
     elif call.offset == Register.SDO_FIFO:
         told = sdo_write(call.first, before)
     else:
-        told = WRITES.get(call.offset, '{:08x}'.format)(call.first)
+        told = WRITES.get(call.offset, plain)(call.first)
     return 'write %s: %s' % (register(call.offset), told)
 
 
@@ -213,7 +224,7 @@ def finished(made: Made) -> str:
 
 
 GIVEN: dict[str, Callable[[Made], str]] = {
-    'R': lambda made: READS.get(made.call.offset, '{:08x}'.format)(made.answer.value),
+    'R': lambda made: READS.get(made.call.offset, plain)(made.answer.value),
     'T': lambda made: '%02x, %s' % (made.answer.value, moved(made.after)),
     'X': lambda made: moved(made.after),
     'F': finished,

@@ -6,13 +6,7 @@
 
 #include "thymewax.h"
 
-/* A private write of `length` bytes to a device, as a command word. */
-#define COMMAND(address, length) ((uint32_t)(length) << 8 | (uint32_t)(address) << 1)
-
-#define DEVICE 8
-#define ATTACH ((uint32_t)DEVICE << 9 | 0x102)
-
-enum { CAPACITY = 4, STORE_WORDS = THYMEWAX_QUEUES * CAPACITY };
+enum { DEVICE = 8, CAPACITY = 4, STORE_WORDS = THYMEWAX_QUEUES * CAPACITY };
 
 static uint32_t set_up(struct thymewax *m, uint32_t *store)
 {
@@ -39,9 +33,9 @@ static void lose_a_command(struct thymewax *m)
     print("release", thymewax_write(m, THYMEWAX_REG_ENABLE, 0));
     show(m);
     for (uint32_t length = 1; length <= CAPACITY; length++)
-        print("command", thymewax_write(m, THYMEWAX_REG_CMD_FIFO, COMMAND(DEVICE, length)));
+        print("command", thymewax_write(m, THYMEWAX_REG_CMD_FIFO, thymewax_command(DEVICE, length, 0)));
     show(m);
-    struct thymewax_answer fifth = thymewax_write(m, THYMEWAX_REG_CMD_FIFO, COMMAND(DEVICE, 5));
+    struct thymewax_answer fifth = thymewax_write(m, THYMEWAX_REG_CMD_FIFO, thymewax_command(DEVICE, 5, 0));
     print("fifth command", fifth);
     show(m);
     if (fifth.number == THYMEWAX_DROPPED_FULL)
@@ -51,13 +45,14 @@ static void lose_a_command(struct thymewax *m)
 /* The first command, of one byte. It makes room for the lost one. */
 static void transfer(struct thymewax *m)
 {
-    print("attach device 8", thymewax_write(m, THYMEWAX_REG_DEV_CHAR, ATTACH));
-    print("payload", thymewax_write(m, THYMEWAX_REG_SDO_FIFO, 0xa5000000));
+    const uint32_t attached = thymewax_device(DEVICE, THYMEWAX_DEVICE_ATTACHED);
+    print("attach device 8", thymewax_write(m, THYMEWAX_REG_DEV_CHAR, attached));
+    print("payload", thymewax_write(m, THYMEWAX_REG_SDO_FIFO, THYMEWAX_PUT(THYMEWAX_DATA_FIRST, 0xa5)));
     print("start", thymewax_start(m));
     print("send", thymewax_send(m));
     print("finish", thymewax_finish(m, 0));
     print("receipt", thymewax_read(m, THYMEWAX_REG_CMDR_FIFO));
-    print("fifth command again", thymewax_write(m, THYMEWAX_REG_CMD_FIFO, COMMAND(DEVICE, 5)));
+    print("fifth command again", thymewax_write(m, THYMEWAX_REG_CMD_FIFO, thymewax_command(DEVICE, 5, 0)));
 }
 
 /* A trace of one section with the same loss: a release and five commands. All

@@ -16,12 +16,20 @@ DAMAGES = (
     # registers, numbers, letters
     ('REG_SCRATCH = 0x008', 'REG_SCRATCH = 0x00c'),
     ('REG_OPS = 0x100', 'REG_OP = 0x100'),
-    ('    THYMEWAX_REG_IRQ_MASK = 0x080,\n', ''),
+    ('    THYMEWAX_REG_IRQ_MASK = 0x080,', '    '),
     ('REG_OFFLOAD_SDO = 0x300', 'REG_OFFLOAD_SDO = 0x304'),
     ('THYMEWAX_SDO_EMPTY = 12', 'THYMEWAX_SDO_EMPTY = 15'),
     ('THYMEWAX_NOT_CARRIED = 29', 'THYMEWAX_NOT_CARRIED = 30'),
     ('    THYMEWAX_EMPTY = 3,', ''),
     ('LETTER_SEND = 0x54', 'LETTER_SEND = 0x58'),
+    # fields
+    ('_COMMAND_LENGTH 0x000fff00u', '_COMMAND_LENGTH 0x0007ff00u'),
+    ('_IRQ_IBI_PENDING 0x00000040u', '_IRQ_IBI_PENDING 0x00000020u'),
+    ('_CODE_NACK 6u', '_CODE_NACK 4u'),
+    ('(((word) & (field)) /', '((word) /'),
+    ('(0u - (field)))) & (field))', '(0u - (field)))))'),
+    ('THYMEWAX_PUT(THYMEWAX_COMMAND_ADDRESS, address)', 'THYMEWAX_PUT(THYMEWAX_COMMAND_ADDRESS, length)'),
+    ('address) | THYMEWAX_DEVICE_STORE', 'address)'),
     # version and lengths
     ('IMAGE_WORDS 40', 'IMAGE_WORDS 41'),
     ('FLAG_BYTES 128', 'FLAG_BYTES 127'),

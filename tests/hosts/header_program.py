@@ -1,6 +1,8 @@
-"""A C and C++ program that makes every call by the header's inline functions and by the archive."""
+"""A C and C++ program that makes every call by the header's inline functions and by the archive, and
+reads and makes every field by its name."""
 
-from thymewax import Number
+import register_table
+from thymewax import OFFLOAD_CMD, Number, Register
 
 DONE, WRONG_RECORD = Number.DONE, Number.WRONG_RECORD
 # Calls by inline functions, the numbers of their records, and the number of the answer: each
@@ -8,50 +10,53 @@ DONE, WRONG_RECORD = Number.DONE, Number.WRONG_RECORD
 # is too large would be a good one if it were cut.
 CALLS = (
     ('thymewax_start(&m)', 'S', 0, 0, 0, Number.HELD_IN_RESET),
-    ('thymewax_write(&m, THYMEWAX_REG_ENABLE, 0)', 'W', 0x040, 0, 0, DONE),
-    ('thymewax_write(&m, THYMEWAX_REG_IBI_CONFIG, 3)', 'W', 0x140, 3, 0, DONE),
-    ('thymewax_write(&m, THYMEWAX_REG_DEV_CHAR, 0x110e)', 'W', 0x180, 0x110e, 0, DONE),
+    ('thymewax_write(&m, THYMEWAX_REG_ENABLE, 0)', 'W', Register.ENABLE, 0, 0, DONE),
+    ('thymewax_write(&m, THYMEWAX_REG_IBI_CONFIG, 3)', 'W', Register.IBI_CONFIG, 3, 0, DONE),
+    ('thymewax_write(&m, THYMEWAX_REG_DEV_CHAR, thymewax_device(8, FLAGS))', 'W', Register.DEV_CHAR, 0x110e, 0,
+     DONE),
     ('thymewax_interrupt(&m, 0x108, 0x5a)', 'I', 0, 0x108, 0x5a, WRONG_RECORD),
     ('thymewax_interrupt(&m, 8, 0x15a)', 'I', 0, 8, 0x15a, WRONG_RECORD),
     ('thymewax_interrupt(&m, 8, 0x5a)', 'I', 0, 8, 0x5a, DONE),
     ('thymewax_read(&m, 0x100e4)', 'R', 0x100e4, 0, 0, WRONG_RECORD),
-    ('thymewax_read(&m, THYMEWAX_REG_IBI_FIFO)', 'R', 0x0e4, 0, 0, DONE),
-    ('thymewax_write(&m, THYMEWAX_REG_SDO_FIFO, 0xa5c30000)', 'W', 0x0dc, 0xa5c30000, 0, DONE),
-    ('thymewax_write(&m, THYMEWAX_REG_CMD_FIFO, 0x210)', 'W', 0x0d4, 0x210, 0, DONE),
+    ('thymewax_read(&m, THYMEWAX_REG_IBI_FIFO)', 'R', Register.IBI_FIFO, 0, 0, DONE),
+    ('thymewax_write(&m, THYMEWAX_REG_SDO_FIFO, 0xa5c30000)', 'W', Register.SDO_FIFO, 0xa5c30000, 0, DONE),
+    ('thymewax_write(&m, THYMEWAX_REG_CMD_FIFO, thymewax_command(8, 2, 0))', 'W', Register.CMD_FIFO, 0x210, 0,
+     DONE),
     ('thymewax_start(&m)', 'S', 0, 0, 0, DONE),
     ('thymewax_send(&m)', 'T', 0, 0, 0, DONE),
     ('thymewax_send(&m)', 'T', 0, 0, 0, DONE),
     ('thymewax_send(&m)', 'T', 0, 0, 0, Number.LENGTH_REACHED),
     ('thymewax_finish(&m, 0)', 'F', 0, 0, 0, DONE),
-    ('thymewax_write(&m, THYMEWAX_REG_CMD_FIFO, 0x211)', 'W', 0x0d4, 0x211, 0, DONE),
+    ('thymewax_write(&m, THYMEWAX_REG_CMD_FIFO, READ_TWO)', 'W', Register.CMD_FIFO, 0x211, 0, DONE),
     ('thymewax_start(&m)', 'S', 0, 0, 0, DONE),
-    ('thymewax_finish(&m, 6)', 'F', 0, 6, 0, DONE),
-    ('thymewax_write(&m, THYMEWAX_REG_CMD_FIFO, 0x211)', 'W', 0x0d4, 0x211, 0, DONE),
+    ('thymewax_finish(&m, THYMEWAX_CODE_NACK)', 'F', 0, 6, 0, DONE),
+    ('thymewax_write(&m, THYMEWAX_REG_CMD_FIFO, 0x211)', 'W', Register.CMD_FIFO, 0x211, 0, DONE),
     ('thymewax_start(&m)', 'S', 0, 0, 0, DONE),
     ('thymewax_receive(&m, 0x112)', 'X', 0, 0x112, 0, WRONG_RECORD),
     ('thymewax_receive(&m, 0x12)', 'X', 0, 0x12, 0, DONE),
     ('thymewax_receive(&m, 0xff)', 'X', 0, 0xff, 0, DONE),
     ('thymewax_finish(&m, 256)', 'F', 0, 256, 0, WRONG_RECORD),
     ('thymewax_finish(&m, 0)', 'F', 0, 0, 0, DONE),
-    ('thymewax_read(&m, THYMEWAX_REG_SDI_FIFO)', 'R', 0x0e0, 0, 0, DONE),
-    ('thymewax_write(&m, THYMEWAX_REG_CMD_FIFO, 0x400000)', 'W', 0x0d4, 0x400000, 0, DONE),
-    ('thymewax_write(&m, THYMEWAX_REG_CMD_FIFO, 7)', 'W', 0x0d4, 7, 0, DONE),
+    ('thymewax_read(&m, THYMEWAX_REG_SDI_FIFO)', 'R', Register.SDI_FIFO, 0, 0, DONE),
+    ('thymewax_write(&m, THYMEWAX_REG_CMD_FIFO, 0x400000)', 'W', Register.CMD_FIFO, 0x400000, 0, DONE),
+    ('thymewax_write(&m, THYMEWAX_REG_CMD_FIFO, 7)', 'W', Register.CMD_FIFO, 7, 0, DONE),
     ('thymewax_start(&m)', 'S', 0, 0, 0, DONE),
     ('thymewax_request(&m, 0x0123abcd, 0xef000102)', 'D', 0, 0x0123abcd, 0xef000102, DONE),
-    ('thymewax_write(&m, THYMEWAX_REG_SDO_FIFO, 0x11000000)', 'W', 0x0dc, 0x11000000, 0, DONE),
+    ('thymewax_write(&m, THYMEWAX_REG_SDO_FIFO, 0x11000000)', 'W', Register.SDO_FIFO, 0x11000000, 0, DONE),
     ('thymewax_take_address(&m)', 'A', 0, 0, 0, Number.WRONG_PARITY),
-    ('thymewax_write(&m, THYMEWAX_REG_SDO_FIFO, 0x10000000)', 'W', 0x0dc, 0x10000000, 0, DONE),
+    ('thymewax_write(&m, THYMEWAX_REG_SDO_FIFO, 0x10000000)', 'W', Register.SDO_FIFO, 0x10000000, 0, DONE),
     ('thymewax_take_address(&m)', 'A', 0, 0, 0, DONE),
     ('thymewax_finish(&m, 0)', 'F', 0, 0, 0, DONE),
-    ('thymewax_write(&m, THYMEWAX_REG_OFFLOAD_CMD, 0x211)', 'W', 0x2c0, 0x211, 0, DONE),
+    ('thymewax_write(&m, THYMEWAX_REG_OFFLOAD_CMD, 0x211)', 'W', OFFLOAD_CMD[0], 0x211, 0, DONE),
     ('thymewax_trigger(&m)', 'G', 0, 0, 0, Number.NOT_IN_THIS_MODE),
-    ('thymewax_write(&m, THYMEWAX_REG_OPS, 3)', 'W', 0x100, 3, 0, DONE),
+    ('thymewax_write(&m, THYMEWAX_REG_OPS, 3)', 'W', Register.OPS, 3, 0, DONE),
     ('thymewax_trigger(&m)', 'G', 0, 0, 0, DONE),
     ('thymewax_receive(&m, 0x34)', 'X', 0, 0x34, 0, DONE),
     ('thymewax_finish(&m, 0)', 'F', 0, 0, 0, DONE),
     ('thymewax_write(&m, 0x10008, 7)', 'W', 0x10008, 7, 0, WRONG_RECORD),
-    ('thymewax_model_step(&m, 0x57, 0x008, 0x89abcdef, 0)', 'W', 0x008, 0x89abcdef, 0, DONE),
-    ('thymewax_model_step(&m, 0x57, 0x008, 1, 2)', 'W', 0x008, 1, 2, WRONG_RECORD),
+    ('thymewax_model_step(&m, 0x57, THYMEWAX_REG_SCRATCH, 0x89abcdef, 0)', 'W', Register.SCRATCH, 0x89abcdef, 0,
+     DONE),
+    ('thymewax_model_step(&m, 0x57, THYMEWAX_REG_SCRATCH, 1, 2)', 'W', Register.SCRATCH, 1, 2, WRONG_RECORD),
     ('thymewax_model_step(&m, 0, 0, 0, 0)', '\0', 0, 0, 0, WRONG_RECORD),
 )
 
@@ -66,9 +71,13 @@ PROGRAM = r'''
 #include "thymewax.h"
 
 #define STORE_WORDS 25
+#define FLAGS (THYMEWAX_DEVICE_ATTACHED | THYMEWAX_DEVICE_MAY_INTERRUPT | THYMEWAX_DEVICE_SENDS_BYTE)
+#define READ_TWO thymewax_command(8, 2, THYMEWAX_COMMAND_READ)
 /* What every call of the archive takes first. */
 #define KEPT kept.image, THYMEWAX_IMAGE_WORDS, kept.flags, kept.commands, kept.payloads
 
+/* A field is a constant. */
+static const uint32_t length_two = THYMEWAX_PUT(THYMEWAX_COMMAND_LENGTH, 2);
 static const uint32_t capacities[5] = {6, 5, 4, 7, 3}, watermarks[5] = {5, 4, 3, 2, 1};
 static const uint8_t trace[] = {
     'I', '3', 'T', 'R', 3, 0, 30, 0, 0, 0, 2, 0, 0, 0, 54, 0, 0, 0, 1, 0, 0, 0, 66, 0, 0, 0, 2, 0, 0, 0,
@@ -153,8 +162,28 @@ static void replays(void)
     expect("a file cut off", replay(sizeof trace - 1, 0, 9) == THYMEWAX_WRONG_TABLE);
 }
 
+/* A field by its name: what it is of a word of ones, and of one with ones elsewhere; what a word of it
+ * is, where its number fits and where it has a bit too many. */
+static void field(const char *what, uint32_t mask, uint32_t of_ones, uint32_t of_others, uint32_t of_one,
+                  uint32_t of_too_many, unsigned high, unsigned low)
+{
+    uint32_t bits = (0xffffffffu >> (31 - high + low)) << low;
+    expect(what, mask == bits && of_ones == bits >> low && of_others == 0);
+    expect(what, of_one == 1u << low && of_too_many == 0);
+}
+
+static void fields(void)
+{
+FIELDS
+    expect("a constant", length_two == 0x200);
+    expect("a command", READ_TWO == 0x211 && thymewax_command(0x7f, 0xfff, 0) == 0xffffe);
+    expect("too wide", thymewax_command(0x80, 0x1000, 0) == 0 && thymewax_device(0x80, 0) == 0x100);
+    expect("a device", thymewax_device(8, 0) == 0x1100 && thymewax_device(0x7f, FLAGS) == 0xff0e);
+}
+
 int main(void)
 {
+    fields();
     expect("version", thymewax_version() == THYMEWAX_VERSION);
     expect("image words", thymewax_image_words() == THYMEWAX_IMAGE_WORDS);
     expect("store words", thymewax_store_words(capacities) == STORE_WORDS);
@@ -184,8 +213,25 @@ CALLS
 '''
 
 
+def field_rows():
+    """Each field of docs/registers.toml by its name, and each name of a number."""
+    table = register_table.load()
+    for word in table.named_words():
+        for field in word.fields:
+            name = 'THYMEWAX_%s_%s' % (word.name.upper(), field.name.upper())
+            # A bit too many is none of 32.
+            more = (1 << field.high - field.low + 1) & 0xffffffff
+            yield ('    field("{0}", {0}, THYMEWAX_GET({0}, 0xffffffffu), THYMEWAX_GET({0}, ~{0}), '
+                   'THYMEWAX_PUT({0}, 1), THYMEWAX_PUT({0}, {1}u), {2}, {3});').format(
+                       name, more, field.high, field.low)
+    for name, values in table.named_values():
+        for value in values:
+            yield '    expect("{0}", THYMEWAX_{1}_{0} == {2});'.format(
+                value.name, name.upper(), value.number)
+
+
 def program():
     """The program that makes all calls."""
     rows = ['    call("%s", %s, %d, %d, %du, %du, %d);' % (made, made, ord(letter), *numbers)
             for made, letter, *numbers in CALLS]
-    return PROGRAM.replace('CALLS', '\n'.join(rows))
+    return PROGRAM.replace('CALLS', '\n'.join(rows)).replace('FIELDS', '\n'.join(field_rows()))

@@ -16,36 +16,16 @@ import sys
 import tempfile
 import tomllib
 import typing
-import xml.etree.ElementTree as xml
 
 sys.path.insert(0, str(pathlib.Path(__file__).resolve().parents[2]))
 
 from tests import PACKAGE, ROOT
 from tests.shared.trial import Wrong, equal, main, raises, run
+import register_table
 import thymewax
-from thymewax import (OFFLOAD_CMD, OFFLOAD_SDO, MEANINGS, Command, Config, Device, Interrupt, Irq,
-                      Number, Ops, Receipt, Register, Status, image, library, name_of)
+from thymewax import MEANINGS, Number, image, library, name_of
 
-# The fields of words, by the names of docs/registers.svd.
-FIELDS = {
-    'CMD_FIFO': (Command, {
-        'CMD_IS_CCC': 'ccc', 'CMD_BCAST_HEADER': 'header', 'CMD_SR': 'repeated_start',
-        'CMD_BUFFER_LENGTH': 'length', 'CMD_DA': 'address', 'CMD_RNW': 'read'}),
-    'CMDR_FIFO': (Receipt, {
-        'CMDR_FIFO_ERROR': 'error', 'CMDR_FIFO_BUFFER_LENGTH': 'length',
-        'CMDR_FIFO_SYNC': 'sync'}),
-    'IBI_FIFO': (Interrupt, {
-        'IBI_FIFO_DA': 'address', 'IBI_FIFO_MDB': 'data', 'IBI_FIFO_SYNC': 'sync'}),
-    'OPS': (Ops, {
-        'OPS_STATUS_NOP': 'idle', 'OPS_SPEED_GRADE': 'speed',
-        'OPS_OFFLOAD_LENGTH': 'offload_length', 'OPS_MODE': 'offload'}),
-    'DEV_CHAR': (Device, {
-        'DEV_CHAR_ADDR': 'address', 'DEV_CHAR_WEN': 'store',
-        'DEV_CHAR_HAS_IBI_PAYLOAD': 'sends_byte', 'DEV_CHAR_IS_IBI_CAPABLE': 'may_interrupt',
-        'DEV_CHAR_IS_ATTACHED': 'attached'}),
-}
-BITS = {'IRQ_MASK': Irq, 'IRQ_PENDING': Irq, 'IRQ_SOURCE': Irq, 'FIFO_STATUS': Status,
-        'IBI_CONFIG': Config}
+TABLE = register_table.load()
 EXAMPLE = b'''command 00000210: done
 command 00000411: done
 a third one: 1, a word written to a full CMD or SDO was dropped
@@ -76,55 +56,25 @@ def numbers():
     equal('numbers', 'an answer', thymewax.Answer(0, 1).number == Number.DROPPED_FULL, True)
 
 
-def svd_registers():
-    """Name, offset and fields (name, high, low) of each register, the two memories by their
-    first."""
-    tree = xml.parse(ROOT / 'docs/registers.svd')
-    for one in tree.iter('register'):
-        fields = [(field.findtext('name'), *map(int, field.findtext('bitRange')[1:-1].split(':')))
-                  for field in one.iter('field')]
-        yield one.findtext('name'), int(one.findtext('addressOffset'), 16), fields
-
-
-def registers():
-    memories = {'OFFLOAD_CMD[%s]': OFFLOAD_CMD, 'OFFLOAD_SDO[%s]': OFFLOAD_SDO}
-    names = {}
-    for name, offset, fields in svd_registers():
-        if name in memories:
-            equal('registers', name, list(memories[name]), list(range(offset, offset + 64, 4)))
-            names.update({offset + 4 * place: name % place for place in range(16)})
-            continue
-        names[offset] = name
-        equal('registers', name, Register[name], offset)
-        if name in BITS:
-            equal('registers', name, {bit.name: bit.value for bit in BITS[name]},
-                  {field: 1 << low for field, _, low in fields})
-        if name in FIELDS:
-            check_fields(name, fields)
+def offsets():
+    """Every offset has the name that the table has there, or none."""
+    names = {offset: '%s[%d]' % (one.name, place) if one.count else one.name
+             for one in TABLE.registers for place, offset in enumerate(one.offsets)}
     for offset in range(0x10000):
         equal('offsets', offset, name_of(offset), names.get(offset))
 
 
-def check_fields(name, fields):
-    """Each field alone, all its bits set, read and made again."""
-    kind, attributes = FIELDS[name]
-    equal('fields', name, {field for field, _, _ in fields}, set(attributes))
-    for field, high, low in fields:
-        word = (1 << high + 1) - (1 << low)
-        most = (1 << high - low + 1) - 1
-        read = kind.of(word)._asdict()
-        wanted = {attribute: most if attribute == attributes[field] else 0 for attribute in read}
-        equal('fields', field, read, wanted)
-        if hasattr(kind, 'word') and field != 'OPS_STATUS_NOP':
-            equal('fields', field, kind.of(word).word, word)
-            check_wide(kind, attributes[field], most)
-
-
-def check_wide(kind, attribute, most):
+def wide_fields():
     """A field that has more bits than its place makes no word."""
-    for number, error in ((most + 1, ValueError), (-1, ValueError), (1.0, TypeError)):
-        wide = kind.of(0)._replace(**{attribute: number})
-        raises('wide fields', wide, error, getattr, wide, 'word')
+    for word in TABLE.words.values():
+        kind = getattr(thymewax, word.python, None)
+        for field in word.fields if hasattr(kind, 'word') else ():
+            if field.name not in kind._fields or field.access == 'ro':
+                continue
+            most = field.mask >> field.low
+            for number, error in ((most + 1, ValueError), (-1, ValueError), (1.0, TypeError)):
+                wide = kind.of(0)._replace(**{field.name: number})
+                raises('wide fields', wide, error, getattr, wide, 'word')
 
 
 def hints():
@@ -230,5 +180,5 @@ def image_words():
 
 
 if __name__ == '__main__':
-    main('tables', [image_words, meanings, numbers, registers, hints, project, without_library, build, example,
-                    readme])
+    main('tables', [image_words, meanings, numbers, offsets, wide_fields, hints, project, without_library, build,
+                    example, readme])

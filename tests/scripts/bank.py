@@ -1,25 +1,25 @@
 """The bank that scripts speak of: its registers, its queues, its set-ups, and what calls leave of
 its devices, its offload words and its open transfer.
 
-The generator guesses a bank by its own calls, the coverage follows one by the answers. Offsets and
-the fields of words are those of the Python package.
+The generator guesses a bank by its own calls, the coverage follows one by the answers. What registers
+there are, and what each does, stands in docs/registers.toml; the fields of words are those of the
+Python package.
 """
 
 from tests.scripts.endings import (ALL_MOVED, ENDINGS, NO_BYTES, NO_REQUEST, NONE_MOVED,
                                    PART_MOVED, UNSENT, kind_name)
+import register_table
 from thymewax import OFFLOAD_CMD, OFFLOAD_SDO, Ccc, Command, Device, Ops, Register
 from thymewax.formats import ENTDAA
 
+REGISTERS = register_table.load().registers
 OFFLOAD = [*OFFLOAD_CMD, *OFFLOAD_SDO]
-MAPPED = [*Register, *OFFLOAD]
+MAPPED = [offset for one in REGISTERS for offset in one.offsets]
 # Queues by their register: those that a write pushes to, those that a read takes from.
-PUSHING = [Register.CMD_FIFO, Register.SDO_FIFO]
-TAKING = [Register.CMDR_FIFO, Register.SDI_FIFO, Register.IBI_FIFO]
+PUSHING = [one.offset for one in REGISTERS if one.row == 'pushes']
+TAKING = [one.offset for one in REGISTERS if one.row == 'takes']
 # Registers that take no write (`map.read-only`).
-READ_ONLY = TAKING + [
-    Register.CMD_FIFO_ROOM, Register.CMDR_FIFO_LEVEL, Register.SDO_FIFO_ROOM,
-    Register.SDI_FIFO_LEVEL, Register.IBI_FIFO_LEVEL, Register.FIFO_STATUS, Register.IRQ_SOURCE,
-    Register.VERSION, Register.DEVICE_ID]
+READ_ONLY = [one.offset for one in REGISTERS if one.access == 'ro']
 # What a burst locks (`burst.holds`).
 LOCKED = {Register.OPS, *OFFLOAD}
 

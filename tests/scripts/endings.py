@@ -3,14 +3,17 @@
 An allowed code ends the transfer, or finds no room for the receipt; any other code is refused.
 """
 
+from thymewax import Code
+
 # How many of the commanded bytes have moved.
 NO_BYTES, NONE_MOVED, PART_MOVED, ALL_MOVED = 'm = L = 0', 'm = 0 < L', '0 < m < L', 'm = L > 0'
 # How far ENTDAA is.
 NO_REQUEST, REQUEST_OPEN, REQUEST_SERVED = 'no request made', 'request open', 'request served'
 
 CODES = range(16)
-# The codes that receipts have, by their names (`receipt.codes`).
-NO_ERROR, CE0, CE2, NACK, UNKNOWN = 0, 1, 4, 6, 8
+# The codes that receipts have (`receipt.codes`).
+NO_ERROR, CE0, CE2, NACK, UNKNOWN = map(
+    int, (Code.NO_ERROR, Code.CE0, Code.CE2, Code.NACK, Code.UNKNOWN_ADDRESS))
 # Those with which a write takes its payload out of SDO (`finish.removal`).
 UNSENT = (CE2, NACK, UNKNOWN)
 

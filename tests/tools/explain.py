@@ -15,13 +15,10 @@ from collections import Counter
 
 sys.path.insert(0, str(pathlib.Path(__file__).resolve().parents[2]))
 
-from tests import ROOT
 from tests.scripts.source import Source
 from tests.shared.packing import pack
 from tests.shared.trial import equal, generated, main, run, tool
 from thymewax import MEANINGS, Model, Number, session
-
-sys.path.insert(0, str(ROOT / 'tools'))
 import inputs
 from ledger import Ledger
 

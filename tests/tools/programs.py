@@ -27,8 +27,6 @@ from tests.shared.replayed import ENDS, expected
 from tests.shared.trial import Wrong, equal, generated, main, run, tool
 from thymewax import MEANINGS, Answer, Number
 from thymewax import session as lines
-
-sys.path.insert(0, str(ROOT / 'tools'))
 import inputs
 
 SECONDS = 20

@@ -3,13 +3,12 @@
 
     svd.py PROGRAM
 
-The file must be what tools/svd.py writes, byte for byte, and that tool must follow edits of the
-definitions or refuse them; well-formed, in the schema's order, its 53 offsets and their fields
-without overlap. PROGRAM must then agree with it: on reset values,
-on the bits that can be written, on read-only and write-only registers, on all 65,536 offsets, and
-in sessions whose words are put together from the file's offsets and fields, so that a field at a
-wrong place gives a wrong answer. Exit status 0 only if all of it holds, 1 if not, 2 for wrong
-arguments.
+The file must be what tools/svd.py writes, byte for byte, well-formed, in the schema's order, its
+offsets and their fields without overlap. PROGRAM must then agree with it: on reset values, on the
+bits that can be written, on read-only and write-only registers, on all 65,536 offsets, and in
+sessions whose words are put together from the file's offsets, fields and names for numbers, so that
+a field at a wrong place gives a wrong answer. Exit status 0 only if all of it holds, 1 if not, 2 for
+wrong arguments.
 """
 
 import pathlib
@@ -29,26 +28,9 @@ from thymewax import Answer
 TOOL = ROOT / 'tools/svd.py'
 FILE = ROOT / 'docs/registers.svd'
 
-# The definitions, by the tool's arguments. An edit of a definition, and whether the tool takes it.
-SOURCES = {'--map': ROOT / 'crates/registers/specs/Map.antt',
-           '--rows': ROOT / 'crates/model/specs/Registers.antt'}
-EDITS = (
-    ('--map', '0x100 is Ops', '0x104 is Ops', True),
-    ('--map', '(base + 0x3c)', '(base + 0x38)', True),
-    ('--rows', 'row Scratch = holds scratch', 'row Scratch = shows (λ s. 0)', True),
-    ('--rows', 'row SdiFifo = takes Sdi', 'row SdiFifo = shows (λ s. 0)', True),
-    ('--rows', 'shown ibiConfig s = 0', 'shown ibiConfig s = s .regs .config', True),
-    ('--map', '0x100 is Ops', '0x100 is Ops ∷ 0x104 is Other', False),
-    ('--map', '∷ 0x100 is Ops', '', False),
-    ('--map', '0x100 is Ops', '0x100 is Ops ∷ 0x104 is Ops', False),
-    ('--map', '0x100 is Ops', '0x0e8 is Ops', False),
-    ('--map', '0x100 is Ops', '0x100 for Ops', False),
-    ('--map', '(o - 0x300)', '(o - 0x304)', False),
-    ('--rows', 'row Ops = holds ops', '', False),
-    ('--rows', 'row Ops = holds ops', 'row Ops = keeps ops', False),
-    ('--rows', 'row Ops = holds ops', 'row Ops = absent', False),
-    ('--rows', 'row IrqPending = acknowledges', 'row IrqPending = holds mask', False),
-)
+# An edit of the table that the tool follows, and one that it refuses.
+TABLE = ROOT / 'docs/registers.toml'
+EDITS = (('offset = 0x100', 'offset = 0x104', True), ('offset = 0x100', 'offset = 0x0e8', False))
 SHOWN = 20
 
 
@@ -62,17 +44,16 @@ def written_by_tool(*arguments):
 
 
 def check_tool(checks, text):
-    """The tool writes the file, another one for other definitions, and nothing for wrong ones."""
+    """The tool writes the file, another one for another table, and nothing for a wrong one."""
     checks.holds(written_by_tool() == (0, text, b''),
                  'docs/registers.svd is not what tools/svd.py writes')
-    for argument, old, new, taken in EDITS:
-        with open(SOURCES[argument], encoding='utf-8') as file:
-            source = file.read()
-        checks.holds(source.count(old) == 1, '%r does not stand once in its file' % old)
+    source = TABLE.read_text(encoding='utf-8')
+    for old, new, taken in EDITS:
+        checks.holds(source.count(old) == 1, '%r does not stand once in the table' % old)
         with tempfile.NamedTemporaryFile('w', encoding='utf-8') as edited:
             edited.write(source.replace(old, new))
             edited.flush()
-            status, output, message = written_by_tool(argument, edited.name)
+            status, output, message = written_by_tool('--table', edited.name)
         if taken:
             right = status == 0 and output not in (b'', text)
         else:

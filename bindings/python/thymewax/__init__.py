@@ -15,11 +15,13 @@ from .image import Image, Kind, Levels, Phase, Ring, Rings, Transfer
 from .library import LibraryMissing
 from .model import Model, Place, Replayed, SetUp, section, sections
 from .numbers import MEANINGS, Answer, Number, Refused
-from .registers import OFFLOAD_CMD, OFFLOAD_SDO, Config, Irq, Register, Status, name_of
+from .registers import (OFFLOAD_CMD, OFFLOAD_SDO, Code, Config, Irq, Register, Speed, Status,
+                        name_of)
 
 __all__ = [
-    'AddressWord', 'Answer', 'Call', 'Ccc', 'Command', 'Config', 'Device', 'Image', 'Interrupt',
-    'Irq', 'Kind', 'Levels', 'LibraryMissing', 'MEANINGS', 'Model', 'Number', 'OFFLOAD_CMD',
-    'OFFLOAD_SDO', 'Ops', 'Phase', 'Place', 'Receipt', 'Refused', 'Register', 'Replayed', 'Ring',
-    'Rings', 'SetUp', 'Status', 'Transfer', 'name_of', 'section', 'sections',
+    'AddressWord', 'Answer', 'Call', 'Ccc', 'Code', 'Command', 'Config', 'Device', 'Image',
+    'Interrupt', 'Irq', 'Kind', 'Levels', 'LibraryMissing', 'MEANINGS', 'Model', 'Number',
+    'OFFLOAD_CMD', 'OFFLOAD_SDO', 'Ops', 'Phase', 'Place', 'Receipt', 'Refused', 'Register',
+    'Replayed', 'Ring', 'Rings', 'SetUp', 'Speed', 'Status', 'Transfer', 'name_of', 'section',
+    'sections',
 ]

@@ -16,6 +16,7 @@ _COMMAND = {'read': (0, 1), 'address': (1, 7), 'length': (8, 12), 'repeated_star
 _OPS = {'offload': (0, 1), 'offload_length': (1, 4), 'speed': (5, 2)}
 _DEVICE = {'attached': (1, 1), 'may_interrupt': (2, 1), 'sends_byte': (3, 1), 'store': (8, 1),
            'address': (9, 7)}
+_ADDRESS_WORD = {'address': (25, 7), 'parity': (24, 1)}
 
 
 def fits(number: int, bits: int, name: str) -> int:
@@ -128,11 +129,20 @@ class Device(NamedTuple):
 
 
 class AddressWord(NamedTuple):
-    """A word of SDO_FIFO that an address take takes."""
+    """A word of SDO_FIFO that an address take takes. The parity bit makes the ones of address and
+    parity together an odd number."""
 
     address: int
-    parity_right: bool
+    parity_right: bool = True
 
     @classmethod
     def of(cls, word: int) -> AddressWord:
         return cls(word >> 25, (word >> 24).bit_count() % 2 == 1)
+
+    @property
+    def parity(self) -> bool:
+        return (self.address.bit_count() % 2 == 0) == self.parity_right
+
+    @property
+    def word(self) -> int:
+        return _word(self, _ADDRESS_WORD)

@@ -7,6 +7,8 @@ from __future__ import annotations
 
 from enum import IntEnum, IntFlag
 
+# Written by tools/names.py from docs/registers.toml: do not edit.
+
 
 class Register(IntEnum):
     """Offsets."""
@@ -34,20 +36,10 @@ class Register(IntEnum):
     DEV_CHAR = 0x180
 
 
-# The offsets of the sixteen offload commands and the sixteen offload data words.
+# The offsets of memories.
 OFFLOAD_CMD = range(0x2c0, 0x300, 4)
 OFFLOAD_SDO = range(0x300, 0x340, 4)
-
-_NAMES: dict[int, str] = {
-    **{int(register): register.name for register in Register},
-    **{offset: 'OFFLOAD_CMD[%d]' % place for place, offset in enumerate(OFFLOAD_CMD)},
-    **{offset: 'OFFLOAD_SDO[%d]' % place for place, offset in enumerate(OFFLOAD_SDO)},
-}
-
-
-def name_of(offset: int) -> str | None:
-    """The name of the register at an offset, if one is there."""
-    return _NAMES.get(offset)
+MEMORIES = {'OFFLOAD_CMD': OFFLOAD_CMD, 'OFFLOAD_SDO': OFFLOAD_SDO}
 
 
 class Irq(IntFlag):
@@ -76,3 +68,36 @@ class Config(IntFlag):
 
     IBI_CONFIG_ENABLE = 1 << 0
     IBI_CONFIG_LISTEN = 1 << 1
+
+
+class Code(IntEnum):
+    """Numbers of `Receipt.error`."""
+
+    NO_ERROR = 0
+    CE0 = 1
+    CE2 = 4
+    NACK = 6
+    UNKNOWN_ADDRESS = 8
+
+
+class Speed(IntEnum):
+    """Numbers of `Ops.speed`."""
+
+    MHZ_1_56 = 0
+    MHZ_3_12 = 1
+    MHZ_6_25 = 2
+    MHZ_12_50 = 3
+
+
+# End of what is written.
+
+_NAMES: dict[int, str] = {
+    **{int(register): register.name for register in Register},
+    **{offset: '%s[%d]' % (name, place)
+       for name, offsets in MEMORIES.items() for place, offset in enumerate(offsets)},
+}
+
+
+def name_of(offset: int) -> str | None:
+    """The name of the register at an offset, if one is there."""
+    return _NAMES.get(offset)

@@ -3,35 +3,34 @@
 //! what it prints.
 
 use std::fmt::Write;
+use thymewax::fields::{command, data, device, receipt};
 use thymewax::{registers, Model, Refusal, SetUp};
 
 /// The sensor's address on the bus.
 const SENSOR: u32 = 0x48;
 /// The sensor's register with the temperature.
 const TEMPERATURE: u32 = 0x05;
-/// DEV_CHAR: write enable and attached.
-const ATTACH: u32 = 1 << 8 | 1 << 1;
-/// A command's bit 0.
-const READ: u32 = 1;
 
-/// A private command: bits 19:8 the length in bytes, 7:1 the address, 0 read.
-fn command(length: u32, read: u32) -> u32 {
-    length << 8 | SENSOR << 1 | read
+/// A private command.
+fn private(length: u32) -> u32 {
+    command::ADDRESS.put(SENSOR) | command::LENGTH.put(length)
 }
 
-/// A receipt in words: bits 23:20 the error, 19:8 the bytes moved, 7:0 the sync.
-fn told(receipt: u32) -> String {
-    let error = receipt >> 20 & 0xf;
-    let length = receipt >> 8 & 0xfff;
-    let sync = receipt & 0xff;
-    format!("receipt {receipt:08x}: error {error}, {length} bytes, sync {sync}")
+/// A receipt in words.
+fn told(word: u32) -> String {
+    let error = receipt::ERROR.get(word);
+    let length = receipt::LENGTH.get(word);
+    let sync = receipt::SYNC.get(word);
+    format!("receipt {word:08x}: error {error}, {length} bytes, sync {sync}")
 }
 
 /// The driver's first half: payload and commands are queued.
 fn ask(model: &mut Model) -> Result<(), Refusal> {
-    model.write(registers::SDO_FIFO, TEMPERATURE << 24).done()?;
-    model.write(registers::CMD_FIFO, command(1, 0)).done()?;
-    model.write(registers::CMD_FIFO, command(2, READ)).done()?;
+    let chosen = data::FIRST.put(TEMPERATURE);
+    model.write(registers::SDO_FIFO, chosen).done()?;
+    model.write(registers::CMD_FIFO, private(1)).done()?;
+    let read = private(2) | command::READ.put(1);
+    model.write(registers::CMD_FIFO, read).done()?;
     Ok(())
 }
 
@@ -54,9 +53,8 @@ pub fn report() -> Result<String, Refusal> {
 
     let mut model = Model::set_up(&SetUp::SESSION)?;
     model.write(registers::ENABLE, 0).done()?;
-    model
-        .write(registers::DEV_CHAR, SENSOR << 9 | ATTACH)
-        .done()?;
+    let attached = device::ADDRESS.put(SENSOR) | device::STORE.put(1) | device::ATTACHED.put(1);
+    model.write(registers::DEV_CHAR, attached).done()?;
     ask(&mut model)?;
     say(format!("the sensor was sent {:02x}", serve(&mut model)?));
 

@@ -26,7 +26,7 @@ pub enum Call {
     },
     /// The bus finishes the transfer.
     Finish {
-        /// The error code of the receipt: 0, 1, 4, 6 or 8.
+        /// The error code of the receipt, one of [`code`](crate::fields::code).
         code: u8,
     },
     /// A device requests an interrupt.

@@ -34,6 +34,7 @@
 
 mod answer;
 mod call;
+pub mod fields;
 mod model;
 mod number;
 #[allow(unsafe_code)]

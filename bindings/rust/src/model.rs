@@ -193,9 +193,8 @@ impl Model {
         self.step(Call::Receive { byte })
     }
 
-    /// The bus finishes the transfer with an error code: 0 none, 1 wrong length of a CCC, 4 no
-    /// response to the broadcast address, 6 not acknowledged, 8 unknown address. docs/ENDINGS.md says
-    /// which is allowed when. The value is the receipt, 0 in a burst.
+    /// The bus finishes the transfer with one of [`code`](crate::fields::code). docs/ENDINGS.md says
+    /// which is allowed when. The value is the [`receipt`](crate::fields::receipt), 0 in a burst.
     pub fn finish(&mut self, code: u8) -> Answer {
         self.step(Call::Finish { code })
     }

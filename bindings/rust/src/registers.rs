@@ -1,58 +1,62 @@
 //! Where the registers stand: offsets for [`Model::read`](crate::Model::read) and
-//! [`Model::write`](crate::Model::write). Names and bits are those of docs/registers.svd.
+//! [`Model::write`](crate::Model::write). [`fields`](crate::fields) has their bits.
 
-/// Version of the peripheral. Read-only.
+// Written by tools/names.py from docs/registers.toml: do not edit.
+
+/// Version of the peripheral, 0.01.00. Read-only.
 pub const VERSION: u16 = 0x000;
-/// The ID that set-up gave. Read-only.
+/// The ID that set-up gave, 0 to 255. Read-only.
 pub const DEVICE_ID: u16 = 0x004;
-/// A word that nothing uses.
+/// A word that software may use as it likes.
 pub const SCRATCH: u16 = 0x008;
-/// Bit 0 written as 1 resets and holds; 0 releases.
+/// A 1 resets and holds, a 0 releases.
 pub const ENABLE: u16 = 0x040;
-/// Which bits of IRQ_SOURCE are shown in IRQ_PENDING.
+/// Which bits of IRQ_SOURCE show in IRQ_PENDING.
 pub const IRQ_MASK: u16 = 0x080;
-/// The bits of IRQ_SOURCE that the mask shows. Of bits 7:5 a written 1 clears its own.
+/// IRQ_SOURCE AND IRQ_MASK; a 1 clears bit 5, 6 or 7.
 pub const IRQ_PENDING: u16 = 0x084;
-/// The sources of interrupts. Read-only.
+/// The interrupts, whatever the mask. Read-only.
 pub const IRQ_SOURCE: u16 = 0x088;
-/// How many words CMD has place for. Read-only.
+/// Free words of CMD. Read-only.
 pub const CMD_FIFO_ROOM: u16 = 0x0c0;
-/// How many receipts wait. Read-only.
+/// Words in CMDR. Read-only.
 pub const CMDR_FIFO_LEVEL: u16 = 0x0c4;
-/// How many words SDO has place for. Read-only.
+/// Free words of SDO. Read-only.
 pub const SDO_FIFO_ROOM: u16 = 0x0c8;
-/// How many words wait in SDI. Read-only.
+/// Words in SDI. Read-only.
 pub const SDI_FIFO_LEVEL: u16 = 0x0cc;
-/// How many interrupts wait. Read-only.
+/// Words in IBI. Read-only.
 pub const IBI_FIFO_LEVEL: u16 = 0x0d0;
-/// A write queues a word of a command.
+/// A write puts a command word into CMD. Write-only.
 pub const CMD_FIFO: u16 = 0x0d4;
-/// A read takes a receipt. Read-only.
+/// A read takes the first receipt from CMDR. Read-only.
 pub const CMDR_FIFO: u16 = 0x0d8;
-/// A write queues a word of payload; its first byte is the most significant.
+/// A write puts a data word into SDO. Write-only.
 pub const SDO_FIFO: u16 = 0x0dc;
-/// A read takes a word of payload. Read-only.
+/// A read takes the first data word from SDI. Read-only.
 pub const SDI_FIFO: u16 = 0x0e0;
-/// A read takes an interrupt. Read-only.
+/// A read takes the first interrupt from IBI. Read-only.
 pub const IBI_FIFO: u16 = 0x0e4;
-/// Which of SDI, IBI and CMDR are empty: bits 2, 1, 0. Read-only.
+/// Which queues have nothing to read. Read-only.
 pub const FIFO_STATUS: u16 = 0x0e8;
-/// Mode in bit 0, offload length in 4:1, speed in 6:5; bit 7 is up while no transfer is open.
+/// How the controller operates.
 pub const OPS: u16 = 0x100;
-/// Bit 1 listen, bit 0 enable. Write-only.
+/// Interrupt requests of devices. Write-only.
 pub const IBI_CONFIG: u16 = 0x140;
-/// The device table: 15:9 address, 8 write enable, 3 sends a byte, 2 may interrupt, 1 attached.
+/// The device table: an address and its flags.
 pub const DEV_CHAR: u16 = 0x180;
-/// The offload commands.
+/// The commands of a burst.
 pub const OFFLOAD_CMD: [u16; 16] = row(0x2c0);
-/// The offload data words.
+/// The data words of a burst.
 pub const OFFLOAD_SDO: [u16; 16] = row(0x300);
 
-/// Sixteen offsets, word by word.
-const fn row(first: u16) -> [u16; 16] {
-    let mut offsets = [first; 16];
+// End of what is written.
+
+/// The offsets of a memory, word by word.
+const fn row<const WORDS: usize>(first: u16) -> [u16; WORDS] {
+    let mut offsets = [first; WORDS];
     let mut place = 1;
-    while place < 16 {
+    while place < WORDS {
         offsets[place] = offsets[place - 1] + 4;
         place += 1;
     }

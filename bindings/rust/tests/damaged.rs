@@ -19,15 +19,16 @@ use formed::well_formed;
 use images::{good_images, WORDS};
 use lcg::Lcg;
 use memory::{number_of, Memory, Numbers, CALLS, READ_VERSION};
+use thymewax::registers;
 
 /// More that change a bank: a reset, a take from each queue, flags, a mode.
 const CHANGES: [Numbers; 7] = [
-    [b'W' as u32, 0x040, 1, 0],
-    [b'R' as u32, 0x0d8, 0, 0],
-    [b'R' as u32, 0x0e0, 0, 0],
-    [b'R' as u32, 0x0e4, 0, 0],
-    [b'W' as u32, 0x180, 0x110e, 0],
-    [b'W' as u32, 0x100, 3, 0],
+    [b'W' as u32, registers::ENABLE as u32, 1, 0],
+    [b'R' as u32, registers::CMDR_FIFO as u32, 0, 0],
+    [b'R' as u32, registers::SDI_FIFO as u32, 0, 0],
+    [b'R' as u32, registers::IBI_FIFO as u32, 0, 0],
+    [b'W' as u32, registers::DEV_CHAR as u32, 0x110e, 0],
+    [b'W' as u32, registers::OPS as u32, 3, 0],
     [b'F' as u32, 0, 8, 0],
 ];
 

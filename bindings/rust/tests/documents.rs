@@ -1,61 +1,11 @@
-//! The names of `registers` are those of docs/registers.svd, at the same offsets; the names of `Number`
-//! are those of the enum in include/thymewax.h, with the same values.
+//! The names of `Number` are those of the enum in include/thymewax.h, with the same values.
 
-use std::collections::BTreeMap;
-use thymewax::{registers::*, Number};
-
-/// The text between two tags, and what follows it.
-fn tag<'a>(text: &'a str, name: &str) -> Option<(&'a str, &'a str)> {
-    let (_, rest) = text.split_once(&format!("<{name}>"))?;
-    rest.split_once(&format!("</{name}>"))
-}
+use thymewax::Number;
 
 /// A file by its path from this crate's folder.
 fn page(path: &str) -> String {
     let here = env!("CARGO_MANIFEST_DIR");
     std::fs::read_to_string(format!("{here}/{path}")).expect(path)
-}
-
-/// Each register of the file: name and offset. A row of sixteen has a `%s` in its name.
-fn described() -> BTreeMap<String, Vec<u16>> {
-    let page = page("../../docs/registers.svd");
-    let (_, mut rest) = page.split_once("<registers>").expect("registers");
-    let mut found = BTreeMap::new();
-    while let Some((name, behind)) = tag(rest, "name") {
-        let (offset, behind) = tag(behind, "addressOffset").expect("an offset");
-        let digits = offset.strip_prefix("0x").expect("a hex offset");
-        let offset = u16::from_str_radix(digits, 16).expect("16 bits");
-        let offsets = match name.strip_suffix("[%s]") {
-            Some(_) => (0..16).map(|place| offset + 4 * place).collect(),
-            None => vec![offset],
-        };
-        found.insert(name.trim_end_matches("[%s]").to_string(), offsets);
-        let (_, behind) = behind.split_once("</fields>").expect("fields");
-        rest = behind;
-    }
-    found
-}
-
-macro_rules! named {
-    ($($name:ident)*) => {
-        vec![$((stringify!($name), vec![$name])),*]
-    };
-}
-
-#[test]
-fn registers_stand_where_the_map_has_them() {
-    let mut names = named![
-        VERSION DEVICE_ID SCRATCH ENABLE IRQ_MASK IRQ_PENDING IRQ_SOURCE CMD_FIFO_ROOM
-        CMDR_FIFO_LEVEL SDO_FIFO_ROOM SDI_FIFO_LEVEL IBI_FIFO_LEVEL CMD_FIFO CMDR_FIFO SDO_FIFO
-        SDI_FIFO IBI_FIFO FIFO_STATUS OPS IBI_CONFIG DEV_CHAR
-    ];
-    names.push(("OFFLOAD_CMD", OFFLOAD_CMD.to_vec()));
-    names.push(("OFFLOAD_SDO", OFFLOAD_SDO.to_vec()));
-    let named: BTreeMap<String, Vec<u16>> = names
-        .into_iter()
-        .map(|(name, offsets)| (name.to_string(), offsets))
-        .collect();
-    assert_eq!(named, described());
 }
 
 /// Each number of the header: name without the prefix, and value.

@@ -149,7 +149,10 @@ fn words_for_results_of_any_length() {
         let named = [1, 0, 0].into_iter().chain([FILL; 3]);
         assert_eq!(number, 0);
         assert!(told.into_iter().eq(named.take(words)));
-        assert_eq!(memory.step([b'R' as u32, 0x008, 0, 0]), 0x55);
+        assert_eq!(
+            memory.step([b'R' as u32, registers::SCRATCH.into(), 0, 0]),
+            0x55
+        );
 
         for file in [&b""[..], b"I3TR", &file] {
             let before = memory.clone();

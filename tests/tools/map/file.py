@@ -3,18 +3,23 @@
 import xml.etree.ElementTree as ElementTree
 from collections import namedtuple
 
-OFFSETS = 53
+import register_table
+
+OFFSETS = sum(len(one.offsets) for one in register_table.load().registers)
 ONES = 0xffffffff
-# What a register and a field may have, in the order that the schema wants.
+# What a peripheral, a register, a field and a name for a number have, in the order that the schema
+# wants.
+PERIPHERAL_ORDER = ['name', 'description', 'baseAddress', 'addressBlock', 'interrupt', 'registers']
+INTERRUPT_ORDER = ['name', 'description', 'value']
 REGISTER_ORDER = ['dim', 'dimIncrement', 'name', 'description', 'addressOffset', 'size', 'access',
                   'resetValue', 'resetMask', 'readAction', 'fields']
-FIELD_ORDER = ['name', 'description', 'bitRange', 'access', 'modifiedWriteValues']
-OPTIONAL = {'dim', 'dimIncrement', 'readAction', 'modifiedWriteValues'}
+FIELD_ORDER = ['name', 'description', 'bitRange', 'access', 'modifiedWriteValues',
+               'enumeratedValues']
+VALUE_ORDER = ['name', 'description', 'value']
+OPTIONAL = {'dim', 'dimIncrement', 'readAction', 'modifiedWriteValues', 'enumeratedValues'}
 ACCESSES = ('read-only', 'write-only', 'read-write')
 # What no session tells apart is stated here: plain words, fields that are stored only or that only
 # a trigger uses, fields whose every bit no session sees at 1.
-PLAIN_OFFSETS = {'DEVICE_ID': 0x004, 'SCRATCH': 0x008, 'OFFLOAD_CMD[0]': 0x2c0,
-                 'OFFLOAD_CMD[15]': 0x2fc, 'OFFLOAD_SDO[0]': 0x300, 'OFFLOAD_SDO[15]': 0x33c}
 WORDS = ('DEVICE_ID', 'SCRATCH', 'CMD_FIFO_ROOM', 'CMDR_FIFO_LEVEL', 'SDO_FIFO_ROOM',
          'SDI_FIFO_LEVEL', 'IBI_FIFO_LEVEL')
 PLAIN_BITS = {
@@ -29,7 +34,8 @@ PLAIN_BITS = {
                                 for byte in range(4)} for at in range(16)},
 }
 
-Field = namedtuple('Field', 'name high low access clears')
+# values: the names of its numbers.
+Field = namedtuple('Field', 'name high low access clears values')
 Register = namedtuple('Register', 'name offset access reset takes fields')
 
 
@@ -74,6 +80,11 @@ def cleared(register):
     return sum(bits(field) for field in register.fields if field.clears)
 
 
+def values(register, field):
+    """The names for the numbers of a field."""
+    return next(one.values for one in register.fields if one.name == field)
+
+
 def in_order(node, order):
     """Whether a node has what it must, in this order, each once."""
     tags = [child.tag for child in node]
@@ -86,7 +97,10 @@ def read_field(node):
     clears = node.findtext('modifiedWriteValues')
     if clears not in (None, 'oneToClear'):
         raise ValueError('modifiedWriteValues %s' % clears)
-    return Field(node.findtext('name'), int(high), int(low), node.findtext('access'), bool(clears))
+    values = {one.findtext('name'): int(one.findtext('value'))
+              for one in node.iter('enumeratedValue')}
+    return Field(node.findtext('name'), int(high), int(low), node.findtext('access'), bool(clears),
+                 values)
 
 
 def read_register(node):
@@ -112,6 +126,10 @@ def check_head(checks, root):
     checks.holds(root.findtext('width') == '32', 'width is not 32')
     checks.holds(len(peripherals) == 1, 'not one peripheral')
     checks.holds(int(peripherals[0].findtext('baseAddress'), 0) == 0, 'base address is not 0')
+    checks.holds(in_order(peripherals[0], PERIPHERAL_ORDER), 'elements of the peripheral')
+    interrupt = peripherals[0].find('interrupt')
+    checks.holds(in_order(interrupt, INTERRUPT_ORDER), 'elements of the interrupt')
+    checks.holds(interrupt.findtext('value') == '0', 'the number of the interrupt is not 0')
 
 
 def check_nodes(checks, nodes):
@@ -127,6 +145,8 @@ def check_nodes(checks, nodes):
         for field in node.find('fields'):
             checks.holds(in_order(field, FIELD_ORDER), '%s: elements of a field' % name)
             checks.holds(field.findtext('description'), '%s: a field not described' % name)
+            for value in field.iter('enumeratedValue'):
+                checks.holds(in_order(value, VALUE_ORDER), '%s: elements of a value' % name)
 
 
 def check_fields(checks, register):
@@ -144,6 +164,10 @@ def check_fields(checks, register):
         checks.holds(register.access in ('read-write', field.access),
                      '%s: %s in a register that is %s' % (where, field.access, register.access))
         checks.holds(field.access == 'read-write' or not field.clears, '%s: clears' % where)
+        numbers = list(field.values.values())
+        checks.holds(len(set(numbers)) == len(numbers), '%s: two names of one number' % where)
+        checks.holds(all(number << field.low & ~bits(field) == 0 for number in numbers),
+                     '%s: a number outside of it' % where)
         used |= bits(field)
     checks.holds(bool(readable(register)) == (register.access != 'write-only'),
                  '%s: its fields are not read as it is' % name)
@@ -169,8 +193,6 @@ def check_file(checks, text):
         check_fields(checks, one)
     named = {one.name: one for one in registers}
     checks.holds(len(named) == len(registers), 'two registers of one name')
-    for name, offset in PLAIN_OFFSETS.items():
-        checks.holds(named[name].offset == offset, '%s: not at 0x%03x' % (name, offset))
     for name, places in PLAIN_BITS.items():
         found = {one.name: (one.high, one.low) for one in named[name].fields}
         for field, place in places.items():

@@ -1,9 +1,12 @@
 """Sessions of resets, queues, transfers, interrupts and devices, made of fields by their names."""
 
 from tests.scripts.endings import CE2, NACK, NO_ERROR, UNKNOWN
-from tests.tools.map.file import ONES, bits, writable
+from tests.tools.map.file import ONES, bits, values, writable
 from tests.tools.map.steps import Script, read, word, write
 from thymewax import Number
+
+# The second word of a direct CCC.
+DIRECT = 0x80
 
 
 def version(registers):
@@ -116,6 +119,32 @@ def headers(registers):
     return script.steps
 
 
+def codes(registers):
+    """The codes that end a transfer are those that have names: of a read by a direct CCC, of a write
+    without bytes and of a transfer to a device that is not attached."""
+    script = Script(registers)
+    script.release()
+    script.attach(8)
+    named = values(registers['CMDR_FIFO'], 'CMDR_FIFO_ERROR')
+    ends = {'NO_ERROR': {}, 'UNKNOWN_ADDRESS': {'CMD_DA': 9},
+            **dict.fromkeys(('CE0', 'CE2', 'NACK'), {'CMD_IS_CCC': 1, 'CMD_RNW': 1,
+                                                     'CMD_BUFFER_LENGTH': 1})}
+    for sync, (name, command) in enumerate(sorted(ends.items())):
+        command = {'CMD_DA': 8, **command}
+        script.put('CMD_FIFO', **command)
+        if 'CMD_IS_CCC' in command:
+            script.steps.append(write(registers['CMD_FIFO'], DIRECT))
+        script.event('S', word(registers['CMD_FIFO'], **command))
+        for code in range(16):
+            if code not in named.values():
+                script.refused('F %x' % code, Number.ENDING_NOT_ALLOWED)
+        script.finish(named[name], sync)
+        script.see_receipt(named[name], sync)
+    if set(named) != set(ends):
+        raise ValueError('codes %s' % sorted(named))
+    return script.steps
+
+
 def many_receipts(registers):
     """The sync of a receipt has eight bits: it returns to 0 after 255."""
     script = Script(registers)
@@ -148,8 +177,11 @@ def mode(registers):
     script.release()
     script.put('OPS', OPS_SPEED_GRADE=3, OPS_OFFLOAD_LENGTH=15)
     script.refused('S', Number.NO_COMMAND)
-    script.put('OPS', OPS_MODE=1)
+    modes = values(registers['OPS'], 'OPS_MODE')
+    script.put('OPS', OPS_MODE=modes['OFFLOAD'])
     script.refused('S', Number.NOT_IN_THIS_MODE)
+    script.put('OPS', OPS_MODE=modes['DIRECT'])
+    script.refused('S', Number.NO_COMMAND)
     return script.steps
 
 
@@ -205,5 +237,5 @@ def devices(registers):
     return script.steps
 
 
-SESSIONS = (version, hold, full, whole_word, transfers, headers, many_receipts, many_interrupts,
-            mode, listening, devices)
+SESSIONS = (version, hold, full, whole_word, transfers, headers, codes, many_receipts,
+            many_interrupts, mode, listening, devices)

@@ -2,6 +2,7 @@
 //! one call of each kind.
 
 use crate::raw::{self, Tables};
+use thymewax::registers;
 
 /// What the memory around a call holds, so that a stray write is seen.
 pub const FILL: u32 = 0xdead_beef;
@@ -9,11 +10,11 @@ pub const FILL: u32 = 0xdead_beef;
 /// A call as the archive takes it: letter, offset, two values.
 pub type Numbers = [u32; 4];
 
-pub const READ_VERSION: Numbers = [b'R' as u32, 0, 0, 0];
+pub const READ_VERSION: Numbers = [b'R' as u32, registers::VERSION as u32, 0, 0];
 /// One of each.
 pub const CALLS: [Numbers; 10] = [
     READ_VERSION,
-    [b'W' as u32, 0x0d4, 0x0000_0110, 0],
+    [b'W' as u32, registers::CMD_FIFO as u32, 0x0000_0110, 0],
     [b'S' as u32, 0, 0, 0],
     [b'T' as u32, 0, 0, 0],
     [b'X' as u32, 0, 0x5a, 0],

@@ -38,7 +38,7 @@ impl Case {
     }
 }
 
-/// The example of 01, whole.
+/// The example of 01, whole; 02 §5 changed the value of the last answer.
 const WORKED_SESSION: &str = "
     W 0040 00000000 => 00000000 00
     W 0180 00001102 => 00000000 00
@@ -49,7 +49,7 @@ const WORKED_SESSION: &str = "
     T               => 000000c3 00
     F 0             => 00000200 00
     R 00d8          => 00000200 00
-    R 00d8          => 00000000 03
+    R 00d8          => 00000200 03
 ";
 
 /// IRQ_SOURCE and FIFO_STATUS with all queues empty.
@@ -118,7 +118,7 @@ const READ_OF_FIVE: &str = "
     F 0             => 00000500 00
     R 00e0          => 00010203 00
     R 00e0          => 04000000 00
-    R 00e0          => 00000000 03
+    R 00e0          => 04000000 03
 ";
 
 /// Device 8 interrupts with a byte.

@@ -1,5 +1,5 @@
 //! Checker of demand 3: judges any program's answers to a session script or to one
-//! with the lines of test mode.
+//! with the lines of test mode. Beside the demand it judges the values of refusals.
 //!
 //! It reads the script and the answers and nothing else. Of the engine it uses the
 //! types of a call, an answer and the set-up numbers, which the line parser gives; it
@@ -8,6 +8,8 @@
 mod clause;
 mod command;
 mod receipt;
+mod refusal;
+mod register;
 mod room;
 mod stretch;
 mod transfer;
@@ -136,7 +138,7 @@ fn judge(script: impl BufRead, answers: impl BufRead, mode: Mode) -> Result<Find
             })?;
             match request {
                 Request::Call(call) => count.judge_call(script.number, &call, answer),
-                Request::SetUp(numbers) => count.set_up(&numbers),
+                Request::SetUp(numbers) => count.set_up(script.number, &numbers, answer),
                 Request::Lend(_) | Request::ShowOutput(_) => {}
             }
         }

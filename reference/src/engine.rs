@@ -22,7 +22,8 @@ fn done(value: u32) -> Answer {
     }
 }
 
-/// A refusal has no value (01, 'Numbers that come back').
+/// A refusal has no value (01, 'Numbers that come back'), but for those of wrong parity and
+/// of an empty queue, which are built where they arise.
 fn refuse(number: u8) -> Answer {
     Answer { value: 0, number }
 }
@@ -90,6 +91,9 @@ struct Queue {
     words: VecDeque<u32>,
     capacity: u32,
     watermark: u32,
+    /// What the driver read last since the release, 0 before its first read. CMD and SDO
+    /// have no reads that take a word, so theirs stays 0 (02 §5).
+    last_read: u32,
 }
 
 impl Queue {
@@ -98,6 +102,7 @@ impl Queue {
             words: VecDeque::new(),
             capacity,
             watermark,
+            last_read: 0,
         }
     }
 
@@ -128,15 +133,29 @@ impl Queue {
         self.words.pop_front()
     }
 
+    /// A driver's read. Of an empty queue it shows the word before once more (02 §5).
+    fn read(&mut self) -> Answer {
+        let Some(word) = self.take() else {
+            return Answer {
+                value: self.last_read,
+                number: EMPTY,
+            };
+        };
+        self.last_read = word;
+        done(word)
+    }
+
     /// Drops the first words, all of them if there are fewer.
     fn remove(&mut self, count: u32) {
         let count = count.min(self.level());
         self.words.drain(..count as usize);
     }
 
-    /// Forgets all words (01, 'The part of the controller we model').
+    /// Forgets all words (01, 'The part of the controller we model'), also the one that was
+    /// read last (02 §5).
     fn reset(&mut self) {
         self.words.clear();
+        self.last_read = 0;
     }
 
     /// For source bits 0 and 2; false at the watermark (01, 'Register map').
@@ -540,7 +559,7 @@ impl Bank {
         };
         match register {
             Register::Cmdr => self.read_cmdr(),
-            Register::Sdi => self.read_sdi(),
+            Register::Sdi => self.sdi.read(),
             Register::Ibi => self.read_ibi(),
             _ => done(self.register_value(register)),
         }
@@ -608,31 +627,20 @@ impl Bank {
 
     /// The read of the last receipt clears source bit 5 (01, 'Register map').
     fn read_cmdr(&mut self) -> Answer {
-        let Some(word) = self.cmdr.take() else {
-            return refuse(EMPTY);
-        };
-        if self.cmdr.is_empty() {
+        let answer = self.cmdr.read();
+        if answer.number == DONE && self.cmdr.is_empty() {
             self.pending.receipt = false;
         }
-        done(word)
-    }
-
-    fn read_sdi(&mut self) -> Answer {
-        match self.sdi.take() {
-            Some(word) => done(word),
-            None => refuse(EMPTY),
-        }
+        answer
     }
 
     /// The read of the last entry clears source bit 6 (01, 'Register map').
     fn read_ibi(&mut self) -> Answer {
-        let Some(word) = self.ibi.take() else {
-            return refuse(EMPTY);
-        };
-        if self.ibi.is_empty() {
+        let answer = self.ibi.read();
+        if answer.number == DONE && self.ibi.is_empty() {
             self.pending.interrupt = false;
         }
-        done(word)
+        answer
     }
 
     pub(crate) fn write(&mut self, offset: u16, value: u32) -> Answer {

@@ -1,16 +1,17 @@
-//! When a bank is well formed: a statement over the 200 numbers of an image. Nothing of
+//! When a bank is well formed: a statement over the 203 numbers of an image. Nothing of
 //! the engine is used.
 //!
-//! A clause that names no other place is one of 01, 'Numbers that come back', or of 02 §3.
+//! A clause that names no other place is one of 01, 'Numbers that come back', or of 02 §3
+//! or §5.
 //! NOTES.md, Well formed, has the decisions.
 
 use crate::lines::parse_word;
 use std::array;
 use std::io::{self, BufRead, ErrorKind, Read, Write};
 
-pub const IMAGE_WORDS: usize = 200;
+pub const IMAGE_WORDS: usize = 203;
 
-/// The clauses, in the order of the papers' two sentences.
+/// The clauses, in the order of the papers' three sentences.
 pub fn well_formed(words: &[u32]) -> bool {
     let Ok(words) = words.try_into() else {
         return false;
@@ -28,6 +29,7 @@ pub fn well_formed(words: &[u32]) -> bool {
         && burst_has_its_transfer(&bank)
         && burst_bytes_by_count(&bank)
         && no_burst_in_reset(&bank)
+        && nothing_read_in_reset(&bank)
 }
 
 // 01, 'Numbers that come back'.
@@ -50,8 +52,9 @@ fn rings_within_capacity(bank: &Bank) -> bool {
 }
 
 /// No number is larger than the register or field that it stands for (01, 'Register map',
-/// 'Commands and receipts'). SCRATCH, the part word and the offload memories have all 32
-/// bits; the bytes moved and the burst's place have bounds of their own below.
+/// 'Commands and receipts'). SCRATCH, the part word, the offload memories and the words read
+/// last have all 32 bits; the bytes moved and the burst's place have bounds of their own
+/// below.
 fn fields_within_bits(bank: &Bank) -> bool {
     let fits = |number: u32, bits: u32| number >> bits == 0;
     let transfer = &bank.transfer;
@@ -166,6 +169,14 @@ fn no_burst_in_reset(bank: &Bank) -> bool {
     bank.enable == 0 || bank.burst == 0
 }
 
+// 02 §5.
+
+/// A reset forgets what was read. Released, each word may be any, also where none was read:
+/// no other number tells whether one was.
+fn nothing_read_in_reset(bank: &Bank) -> bool {
+    bank.enable == 0 || bank.last_read == [0; 3]
+}
+
 // A command word (01, 'Commands and receipts').
 
 fn is_ccc(word: u32) -> bool {
@@ -244,6 +255,8 @@ struct Bank<'a> {
     transfer: Transfer,
     devices: &'a [u32],
     offload_commands: &'a [u32],
+    /// What a read of CMDR, of SDI and of IBI shows when it is empty.
+    last_read: [u32; 3],
 }
 
 impl Bank<'_> {
@@ -275,6 +288,7 @@ impl Bank<'_> {
             },
             devices: &words[40..168],
             offload_commands: &words[168..184],
+            last_read: [words[200], words[201], words[202]],
         }
     }
 

@@ -11,7 +11,7 @@ pub const DONE: u8 = 0;
 pub const DROPPED_FULL: u8 = 1;
 /// The register can only be read.
 pub const DROPPED_READ_ONLY: u8 = 2;
-/// CMDR, SDI or IBI has no word to read.
+/// CMDR, SDI or IBI has no word to read; the value is the one read before (02 §5).
 pub const EMPTY: u8 = 3;
 /// No register has this offset.
 pub const NO_REGISTER: u8 = 4;

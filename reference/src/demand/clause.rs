@@ -1,8 +1,10 @@
-//! The clauses of demand 3, one named check each, and what was found on them.
+//! The clauses of demand 3 and those on refusals, one named check each, and what was found
+//! on them.
 
 use std::io::{self, Write};
 
-/// One check. All of them are demand 3 of 00, as 01 reads it under 'What demand 3 counts'.
+/// One check. Where no other place is named it is demand 3 of 00, as 01 reads it under 'What
+/// demand 3 counts'.
 #[derive(Clone, Copy, Debug, PartialEq, Eq)]
 pub enum Clause {
     /// Starts follow the order of the words taken, pass over no command and repeat none;
@@ -34,10 +36,15 @@ pub enum Clause {
     TakenAfterRoom,
     /// A driver that writes all its words in that way loses none.
     NoneMissing,
+    /// An empty CMDR, SDI or IBI shows the word that was read from it last since the release,
+    /// 0 before the first (02 §5).
+    EmptyReads,
+    /// No other refusal but `WRONG_PARITY` has a value (01, 'Numbers that come back').
+    RefusalsBare,
 }
 
-/// In the order of the demand's words.
-pub const ALL_CLAUSES: [Clause; 13] = [
+/// In the order of the demand's words; refusals last.
+pub const ALL_CLAUSES: [Clause; 15] = [
     Clause::StartedInOrder,
     Clause::RestWaits,
     Clause::OneOpen,
@@ -51,6 +58,8 @@ pub const ALL_CLAUSES: [Clause; 13] = [
     Clause::ReceiptsQueued,
     Clause::TakenAfterRoom,
     Clause::NoneMissing,
+    Clause::EmptyReads,
+    Clause::RefusalsBare,
 ];
 
 impl Clause {
@@ -69,6 +78,8 @@ impl Clause {
             Clause::ReceiptsQueued => "receipts not read still queued",
             Clause::TakenAfterRoom => "command word after a room read above 0 taken",
             Clause::NoneMissing => "no command missing where each is written so",
+            Clause::EmptyReads => "an empty read shows the word read last",
+            Clause::RefusalsBare => "other refusals have value 0",
         }
     }
 }

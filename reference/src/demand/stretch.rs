@@ -6,20 +6,13 @@
 use super::clause::Findings;
 use super::command::Kind;
 use super::receipt::{Receipt, Receipts};
+use super::refusal::{judge_value, LastReads};
+use super::register::{CMD, CMDR, CMDR_LEVEL, CMD_ROOM, ENABLE, FIFO_STATUS, OPS};
 use super::room::RoomReads;
 use super::transfer::Transfers;
 use super::waiting::Commands;
 use crate::engine::{Answer, Call, SetupNumbers, SESSION_NUMBERS};
 use crate::number::{DONE, EMPTY, NO_COMMAND, SDO_NOT_EMPTY};
-
-// 01, 'Register map'.
-const ENABLE: u16 = 0x040;
-const CMD_ROOM: u16 = 0x0c0;
-const CMDR_LEVEL: u16 = 0x0c4;
-const CMD: u16 = 0x0d4;
-const CMDR: u16 = 0x0d8;
-const FIFO_STATUS: u16 = 0x0e8;
-const OPS: u16 = 0x100;
 
 /// What is counted since the release.
 #[derive(Debug)]
@@ -28,6 +21,7 @@ struct Stretch {
     commands: Commands,
     transfers: Transfers,
     receipts: Receipts,
+    last_reads: LastReads,
 }
 
 impl Stretch {
@@ -38,6 +32,7 @@ impl Stretch {
             commands: Commands::new(capacities[0] as usize),
             transfers: Transfers::default(),
             receipts: Receipts::new(capacities[1] as usize),
+            last_reads: LastReads::default(),
         }
     }
 
@@ -136,8 +131,10 @@ impl Count {
     }
 
     /// A set-up ends the list and gives the next one its fresh bank. After a refused one no
-    /// release is answered `DONE`.
-    pub fn set_up(&mut self, numbers: &SetupNumbers) {
+    /// release is answered `DONE`. `line` is the script's line.
+    pub fn set_up(&mut self, line: u64, numbers: &SetupNumbers, answer: Answer) {
+        self.findings.set_line(line);
+        judge_value(answer, &mut self.findings);
         self.capacities = numbers.capacities;
         self.offload_length = 0;
         self.stretch = None;
@@ -146,6 +143,7 @@ impl Count {
     /// `line` is the script's line of the call.
     pub fn judge_call(&mut self, line: u64, call: &Call, answer: Answer) {
         self.findings.set_line(line);
+        self.judge_refusal(call, answer);
         match *call {
             Call::Write {
                 offset: ENABLE,
@@ -159,13 +157,23 @@ impl Count {
                     stretch.transfers.trigger(self.offload_length);
                 }
             }
-            // In reset nothing counts.
+            // In reset nothing else counts.
             _ => {
                 if let Some(stretch) = &mut self.stretch {
                     stretch.judge_call(call, answer, &mut self.findings);
                 }
             }
         }
+    }
+
+    /// Refusals are judged in reset too. There no word was read since a release.
+    fn judge_refusal(&mut self, call: &Call, answer: Answer) {
+        let mut none = LastReads::default();
+        let last_reads = match &mut self.stretch {
+            Some(stretch) => &mut stretch.last_reads,
+            None => &mut none,
+        };
+        last_reads.judge(call, answer, &mut self.findings);
     }
 
     /// A write to ENABLE that was answered `DONE`. Bit 0 set is a reset; the first one clear

@@ -6,7 +6,7 @@ mod session;
 use super::clause::Clause;
 use super::*;
 use crate::number::*;
-use session::{long_session, Session, RECEIPT, RELEASE, RESET, ROOM};
+use session::{long_session, Session, QUEUE_READS, RECEIPT, RELEASE, RESET, ROOM};
 
 const NO_RECEIPT_ERROR: u32 = !(0xf << 20);
 
@@ -360,6 +360,7 @@ fn a_sync_raised_by_a_refused_finish() {
     for row in raised {
         session.set(row, session.value(row) + 1, DONE);
     }
+    session.follow_reads();
     assert_broken(&session, &[(Clause::ReceiptSync, first)]);
 }
 
@@ -436,6 +437,7 @@ fn a_missing_receipt_and_cmdr_empty() {
     let mut session = long_session();
     let row = session.find(transfer(&session, "ENTDAA", 9), RECEIPT, DONE);
     session.set(row, 0, EMPTY);
+    session.follow_reads();
     assert_broken(&session, &[(Clause::ReceiptsQueued, row)]);
 }
 
@@ -490,6 +492,7 @@ fn a_receipt_from_before_the_reset() {
     let mut session = long_session();
     let row = session.mark("careless part") + 2;
     session.insert(row, RECEIPT, 0x33, DONE);
+    session.follow_reads();
     assert_broken(&session, &[(Clause::ReceiptsRead, row)]);
 }
 
@@ -603,11 +606,17 @@ fn refusals_that_demand_3_allows() {
     let full = session.find(transfer(&session, "full queues", 2), ROOM, DONE);
     assert_eq!(session.value(full), 0);
     session.insert(full + 1, "W 00d4 00000010", 0, DROPPED_FULL);
-    let release = release + 1;
-    // A read with another number.
-    session.insert(release + 3, ROOM, 4, NO_REGISTER);
-    session.insert(release + 4, "W 00d4 00000010", 0, DROPPED_FULL);
     assert_broken(&session, &[]);
+}
+
+/// The value of a refused read of the room is wrong, but it is no room that was read.
+#[test]
+fn a_room_read_with_another_number() {
+    let mut session = long_session();
+    let release = session.find(session.mark("end of the careless part"), RELEASE, DONE);
+    session.insert(release + 1, ROOM, 4, NO_REGISTER);
+    session.insert(release + 2, "W 00d4 00000010", 0, DROPPED_FULL);
+    assert_broken(&session, &[(Clause::RefusalsBare, release + 1)]);
 }
 
 #[test]
@@ -643,6 +652,121 @@ fn only_writes_that_are_done_reset_and_release() {
 fn a_script_with_no_release_is_kept() {
     let session = Session::run(&["S", "R 00d8", "W 00d4 1"].map(String::from));
     assert_broken(&session, &[]);
+}
+
+// Refusals.
+
+/// The rows of a queue's reads that find it empty, from a row on.
+fn empty_reads(session: &Session, from: usize, read: &str) -> Vec<usize> {
+    let rows = from..session.rows.len();
+    rows.filter(|row| session.is(*row, read, EMPTY)).collect()
+}
+
+/// 01's first reading of an empty queue.
+#[test]
+fn an_empty_read_that_shows_0() {
+    for read in QUEUE_READS {
+        let mut session = long_session();
+        let reads = empty_reads(&session, 0, read);
+        let row = *reads.iter().find(|row| session.value(**row) > 0).unwrap();
+        session.set(row, 0, EMPTY);
+        assert_broken(&session, &[(Clause::EmptyReads, row)]);
+    }
+}
+
+#[test]
+fn an_empty_read_that_shows_another_queue_s_word() {
+    let mut session = long_session();
+    let row = session.find(transfer(&session, "ENTDAA", 9), "R 00e0", EMPTY);
+    let receipt = session.find(transfer(&session, "ENTDAA", 9), RECEIPT, DONE);
+    session.set(row, session.value(receipt), EMPTY);
+    assert_broken(&session, &[(Clause::EmptyReads, row)]);
+}
+
+/// The word before the last.
+#[test]
+fn an_empty_read_that_shows_an_older_word() {
+    let mut session = long_session();
+    let row = session.find(session.mark("four receipts"), RECEIPT, EMPTY);
+    assert!(session.is(row - 2, RECEIPT, DONE));
+    session.set(row, session.value(row - 2), EMPTY);
+    assert_broken(&session, &[(Clause::EmptyReads, row)]);
+}
+
+#[test]
+fn an_empty_read_that_shows_a_word_none_has_read() {
+    let mut session = long_session();
+    let row = session.find(session.mark("careless part"), "R 00e4", EMPTY);
+    session.set(row, 0x0010_5a00, EMPTY);
+    assert_broken(&session, &[(Clause::EmptyReads, row)]);
+}
+
+/// In reset, and after the release behind it.
+#[test]
+fn a_word_read_last_that_a_reset_kept() {
+    let session = long_session();
+    let reset = session.mark("reset in a read");
+    let release = session.mark("careless part");
+    assert!(reset < release);
+    for read in QUEUE_READS {
+        let before = (0..reset)
+            .rfind(|row| session.is(*row, read, DONE))
+            .unwrap();
+        for from in [reset, release] {
+            let mut session = session.clone();
+            let row = empty_reads(&session, from, read)[0];
+            session.set(row, session.value(before), EMPTY);
+            assert_broken(&session, &[(Clause::EmptyReads, row)]);
+        }
+    }
+}
+
+/// Whatever the number, whatever the call, in reset too; `WRONG_PARITY` alone has a value.
+#[test]
+fn a_refusal_with_a_value() {
+    let session = long_session();
+    let refused: Vec<usize> = (0..session.rows.len())
+        .filter(|row| session.rows[*row].answer.is_some())
+        .filter(|row| {
+            [DONE, EMPTY, WRONG_PARITY]
+                .iter()
+                .all(|n| !session.is(*row, "", *n))
+        })
+        .collect();
+    let reset = session.mark("reset in a read");
+    assert!(refused
+        .iter()
+        .any(|row| session.is(*row, "S", HELD_IN_RESET) && *row > reset));
+    let mut lines = std::collections::BTreeSet::new();
+    for row in refused {
+        let letter = session.rows[row].line.chars().next();
+        let number = session.rows[row].answer.as_ref().unwrap()[9..].to_string();
+        if lines.insert((letter, number.clone())) {
+            let mut session = session.clone();
+            session.set(row, 1, number.parse().unwrap());
+            assert_broken(&session, &[(Clause::RefusalsBare, row)]);
+        }
+    }
+    assert!(lines.len() > 15);
+}
+
+/// A register without a queue is not empty, so that the number is a refusal as any other.
+#[test]
+fn an_empty_read_of_no_queue() {
+    let mut session = long_session();
+    let end = session.mark("end of the careless part");
+    session.insert(end, "R 0008", 0x33, EMPTY);
+    assert_broken(&session, &[(Clause::RefusalsBare, end)]);
+}
+
+#[test]
+fn a_refused_set_up_with_a_value() {
+    let lines = [RELEASE, "B 0 0 0 0 0 0 0 0 0 0 0", "R 00d8"].map(String::from);
+    let mut session = Session::run_in(Mode::Test, &lines);
+    assert!(session.is(1, "B", SET_UP_OUT_OF_RANGE));
+    assert_broken(&session, &[]);
+    session.set(1, 1, SET_UP_OUT_OF_RANGE);
+    assert_broken(&session, &[(Clause::RefusalsBare, 1)]);
 }
 
 // Bursts.
@@ -813,11 +937,14 @@ kept: receipts read in order: 1 cases
 kept: receipts not read still queued: 2 cases
 kept: command word after a room read above 0 taken: 0 cases
 kept: no command missing where each is written so: 0 cases
+kept: an empty read shows the word read last: 1 cases
+kept: other refusals have value 0: 0 cases
 kept
 ";
     assert_eq!(report(&session), kept);
     // Line 7 is no call, so the finish is on line 9.
     session.set_receipt(8, 0x0000_0100);
+    session.follow_reads();
     let broken = kept
         .replace(
             "kept: receipt length is the bytes moved: 1 cases",

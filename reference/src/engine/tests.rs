@@ -2,6 +2,7 @@
 //! count of demand 3.
 
 mod bursts;
+mod empty_reads;
 mod failed_writes;
 
 use super::*;
@@ -810,6 +811,9 @@ struct Count {
     burst_left: u32,
     /// What SDO holds. Demand 3 does not ask for it.
     sdo: VecDeque<u32>,
+    /// The words read last at 0x0d8, 0x0e0 and 0x0e4 (02 §5).
+    last_read: [u32; 3],
+    empty_reads: usize,
     /// Words that failed writes removed from SDO (02 §2), and how many such writes found
     /// fewer than their length needs.
     removed: usize,
@@ -836,7 +840,28 @@ impl Count {
         self.commands()[self.start_values.len() - 1].clone()
     }
 
+    /// A read of a queue shows a word; an empty one shows the same again.
+    fn note_read(&mut self, offset: u16, answer: Answer) {
+        let place = match offset {
+            0xd8 => 0,
+            0xe0 => 1,
+            0xe4 => 2,
+            _ => return,
+        };
+        match answer.number {
+            DONE => self.last_read[place] = answer.value,
+            number => {
+                assert_eq!(number, EMPTY);
+                assert_eq!(answer.value, self.last_read[place]);
+                self.empty_reads += usize::from(answer.value != 0);
+            }
+        }
+    }
+
     fn note(&mut self, call: &Call, answer: Answer) {
+        if let Call::Read { offset } = *call {
+            self.note_read(offset, answer);
+        }
         if let Call::Write {
             offset: 0xd4,
             value,
@@ -907,6 +932,7 @@ impl Count {
                 offload_length: self.offload_length,
                 removed: self.removed,
                 removed_short: self.removed_short,
+                empty_reads: self.empty_reads,
                 ..Count::default()
             };
         }
@@ -982,7 +1008,7 @@ fn is_entdaa(command: &[u32]) -> bool {
 fn check_well_formed(bank: &Bank) {
     for queue in [&bank.cmd, &bank.cmdr, &bank.sdo, &bank.sdi, &bank.ibi] {
         assert!(queue.level() <= queue.capacity);
-        assert!(!bank.in_reset || queue.is_empty());
+        assert!(!bank.in_reset || queue.is_empty() && queue.last_read == 0);
     }
     if bank.in_reset {
         assert_eq!(bank.pending, Pending::default());
@@ -1025,6 +1051,7 @@ fn random_calls_keep_demand_3() {
     let mut words_written = 0;
     let mut removed = 0;
     let mut removed_short = 0;
+    let mut empty_reads = 0;
     for seed in 0..60 {
         let mut random = Random(seed);
         let numbers = SetupNumbers {
@@ -1061,7 +1088,8 @@ fn random_calls_keep_demand_3() {
             }
             seen[usize::from(answer.number)] = true;
             if answer.number != DONE && answer.number != WRONG_PARITY {
-                assert_eq!(answer.value, 0);
+                // What an empty read shows is counted.
+                assert!(answer.value == 0 || answer.number == EMPTY);
                 assert_eq!(bank, before);
             }
             count.note(&call, answer);
@@ -1071,6 +1099,7 @@ fn random_calls_keep_demand_3() {
         }
         removed += count.removed;
         removed_short += count.removed_short;
+        empty_reads += count.empty_reads;
     }
     // Every number but those that need a bank or store not well formed, a set-up or
     // a trace.
@@ -1090,4 +1119,5 @@ fn random_calls_keep_demand_3() {
     assert!(most_receipts > 0);
     assert!(words_written > 500);
     assert!(removed > 50 && removed_short > 10);
+    assert!(empty_reads > 1000);
 }

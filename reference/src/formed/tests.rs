@@ -31,6 +31,7 @@ const PART: usize = 39;
 const DEVICES: usize = 40;
 const COMMANDS: usize = 168;
 const DATA: usize = 184;
+const LAST_READ: usize = 200;
 
 const DIRECT_CCC: u32 = 1;
 const ENTDAA: [u32; 3] = [3, 4, 5];
@@ -214,7 +215,7 @@ fn words_of_any_number() {
     for image in [released(), in_reset(), in_burst()] {
         for number in [1, 0x8000_0000, u32::MAX] {
             assert!(well_formed(&with(image, &[(SCRATCH, number)])));
-            for place in DATA..IMAGE_WORDS {
+            for place in DATA..LAST_READ {
                 assert!(well_formed(&with(image, &[(place, number)])));
             }
             // Offload commands that no burst has; the last one is in none.
@@ -443,6 +444,21 @@ fn no_bursts_in_reset() {
     assert_broken(clause, &with(in_reset(), &[(BURST, 1)]));
 }
 
+#[test]
+fn words_read_last() {
+    let clause = nothing_read_in_reset;
+    assert_kept(clause, &in_reset());
+    for place in LAST_READ..IMAGE_WORDS {
+        for number in [1, 0x8000_0000, u32::MAX] {
+            let read = [(place, number)];
+            for image in [released(), entdaa(4), in_burst()] {
+                assert_kept(clause, &with(image, &read));
+            }
+            assert_broken(clause, &with(in_reset(), &read));
+        }
+    }
+}
+
 // Lines.
 
 fn line_of(image: &[u32]) -> String {
@@ -497,7 +513,7 @@ fn lines_that_are_no_images() {
         let (output, error) = run(&format!("{sound}\n{wrong}\n{sound}\n"));
         assert_eq!(output, "1\n", "{wrong:?}");
         let error = error.unwrap();
-        assert!(error.starts_with("line 2: not 200 numbers"), "{error}");
+        assert!(error.starts_with("line 2: not 203 numbers"), "{error}");
         assert!(!error.contains('\n'));
     }
 }

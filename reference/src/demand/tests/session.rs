@@ -4,12 +4,14 @@
 use crate::demand::clause::{Clause, ALL_CLAUSES};
 use crate::demand::judge;
 use crate::lines::{parse_line, run_session, Mode, Request};
-use crate::number::DONE;
+use crate::number::{DONE, EMPTY};
 
 pub const RELEASE: &str = "W 0040 00000000";
 pub const RESET: &str = "W 0040 00000001";
 pub const ROOM: &str = "R 00c0";
 pub const RECEIPT: &str = "R 00d8";
+/// CMDR, SDI and IBI.
+pub const QUEUE_READS: [&str; 3] = [RECEIPT, "R 00e0", "R 00e4"];
 /// Rounds of the careful part; each has seven transfers.
 const ROUNDS: u32 = 44;
 const CCC: u32 = 1 << 22;
@@ -111,6 +113,23 @@ impl Session {
         }
         self.set(finish, value, DONE);
         self.set(read, value, DONE);
+    }
+
+    /// Gives the empty reads what those before them now show, so that a fault in a read is
+    /// no second one in the next empty read.
+    pub fn follow_reads(&mut self) {
+        for read in QUEUE_READS {
+            let mut last = 0;
+            for row in 0..self.rows.len() {
+                if self.is(row, RESET, DONE) {
+                    last = 0;
+                } else if self.is(row, read, DONE) {
+                    last = self.value(row);
+                } else if self.is(row, read, EMPTY) {
+                    self.set(row, last, EMPTY);
+                }
+            }
+        }
     }
 
     /// The clauses broken, each with its row.
@@ -331,7 +350,7 @@ pub fn long_session() -> Session {
         script.direct_ccc_read(6, round % 7);
         script.address_assignment();
         script.line("I 08 5a");
-        script.line("R 00e4");
+        script.repeat("R 00e4", 2);
         script.not_acknowledged();
         script.line("");
         script.not_attached();
@@ -344,9 +363,15 @@ pub fn long_session() -> Session {
     for line in ["W 00d4 00000010", "S", "R 00c4", "R 00c0"] {
         script.line(line);
     }
+    for read in QUEUE_READS {
+        script.line(read);
+    }
     script.careful = false;
     script.mark("careless part");
     script.line(RELEASE);
+    for read in QUEUE_READS {
+        script.line(read);
+    }
     for _ in 0..20 {
         script.full_queues();
     }

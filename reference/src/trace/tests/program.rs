@@ -40,7 +40,7 @@ fn the_worked_session() {
                     000000c3 00\n\
                     00000200 00\n\
                     00000200 00\n\
-                    00000000 03\n";
+                    00000200 03\n";
     assert_eq!(run(&trace(&[records_of(WORKED)])[..]), expected);
 }
 

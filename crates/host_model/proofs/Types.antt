@@ -16,7 +16,7 @@ use Rattle.model.specs.declared.Call.{Call}
 use Rattle.model.specs.declared.Call.the-variants.{Read, Write, Start, Send, Receive, Finish, Interrupt, Request, Take, Trigger}
 use Rattle.model.specs.View.{Queue, Cmd, Cmdr, Sdo, Sdi, Ibi, Tables, View}
 use Rattle.model.specs.Decision.{Effect, Decision, effect}
-use Rattle.model.specs.Registers.{Cell, scratch, mask, ops, ibiConfig, devChar, offloadCmd, offloadSdo, Row, absent, shows, holds, pushes, takes, enables, acknowledges, row, storedRegs, storedTables, clears, enable, read, write}
+use Rattle.model.specs.Registers.{Cell, scratch, mask, ops, ibiConfig, devChar, watermark, offloadCmd, offloadSdo, Row, absent, shows, holds, pushes, takes, enables, acknowledges, row, storedRegs, storedTables, clears, enable, read, write}
 use Rattle.model.specs.Calls.{start, send, receive, finish, interrupt, request, takeAddress}
 use Rattle.model.specs.Bursts.{trigger, burstSend, burstReceive, burstFinish, decide}
 use Rattle.model.specs.Engine.{step}
@@ -63,6 +63,7 @@ stored-regs mask v g h = record { id = h .id; mask = le-leb (v % 256) 255 (omega
 stored-regs ops v g h = record { id = h .id; mask = h .mask }
 stored-regs ibiConfig v g h = record { id = h .id; mask = h .mask }
 stored-regs devChar v g h = record { id = h .id; mask = h .mask }
+stored-regs (watermark q) v g h = record { id = h .id; mask = h .mask }
 stored-regs (offloadCmd i) v g h = h
 stored-regs (offloadSdo i) v g h = h
 
@@ -79,6 +80,7 @@ stored-tables mask v t h = h
 stored-tables ops v t h = h
 stored-tables ibiConfig v t h = h
 stored-tables devChar v t h = record { flags = set-if (bit 8 v) (t .flags) (bits 15 9 v) (bits 3 1 v) 128 (h .flags); commands = h .commands; payloads = h .payloads }
+stored-tables (watermark q) v t h = h
 stored-tables (offloadCmd i) v t h = record { flags = h .flags; commands = set-size (t .commands) i v 16 (h .commands); payloads = h .payloads }
 stored-tables (offloadSdo i) v t h = record { flags = h .flags; commands = h .commands; payloads = set-size (t .payloads) i v 16 (h .payloads) }
 

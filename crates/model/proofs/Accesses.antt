@@ -1,22 +1,22 @@
 -- A register access neither looks at the output nor changes it.
-use Prim.Native.Nat.{ℕ}
+use Prim.Native.Nat.{ℕ, _%_, _^_}
 use mathlib.Core.Path.{_≡_, refl, ap, _∙_}
 use mathlib.Core.Bool.{Bool, true, false, cond, not, false≢true}
 use mathlib.Core.List.{List}
 use mathlib.Core.Option.{Option, none, some}
-use lib.Dec.{eqb}
+use lib.Dec.{ltb, eqb}
 use lib.ListN.{length}
 use Rattle.bank.specs.Bits.{bit}
 use Rattle.bank.specs.SetUp.{total}
 use Rattle.bank.specs.Formed.{wellFormed}
 use Rattle.registers.specs.declared.Register.{Register}
-use Rattle.registers.specs.declared.Register.the-variants.{Version, Id, Scratch, Enable, IrqMask, IrqPending, IrqSource, CmdRoom, CmdrLevel, SdoRoom, SdiLevel, IbiLevel, CmdFifo, CmdrFifo, SdoFifo, SdiFifo, IbiFifo, FifoStatus, Ops, IbiConfig, DevChar, OffloadCmd, OffloadSdo, Unmapped}
+use Rattle.registers.specs.declared.Register.the-variants.{Version, Id, Scratch, Enable, IrqMask, IrqPending, IrqSource, CmdRoom, CmdrLevel, SdoRoom, SdiLevel, IbiLevel, CmdFifo, CmdrFifo, SdoFifo, SdiFifo, IbiFifo, FifoStatus, Ops, IbiConfig, DevChar, Watermark, OffloadCmd, OffloadSdo, Unmapped}
 use Rattle.registers.specs.Map.{registerAt}
 use Rattle.model.specs.declared.Call.{Call}
 use Rattle.model.specs.declared.Call.the-variants.{Read, Write, Start, Send, Receive, Finish, Interrupt, Request, Take, Trigger}
-use Rattle.model.specs.View.{Cmd, Cmdr, Sdo, Sdi, Ibi, of, empty}
+use Rattle.model.specs.View.{Queue, Cmd, Cmdr, Sdo, Sdi, Ibi, of, empty}
 use Rattle.model.specs.Decision.{Effect, Decision, does, first, effect}
-use Rattle.model.specs.Registers.{Cell, scratch, mask, ops, ibiConfig, devChar, offloadCmd, offloadSdo, Row, absent, shows, holds, pushes, takes, enables, acknowledges, row, shown, enable, read, write}
+use Rattle.model.specs.Registers.{Cell, scratch, mask, ops, ibiConfig, devChar, watermark, offloadCmd, offloadSdo, Row, absent, shows, holds, pushes, takes, enables, acknowledges, row, shown, enable, read, write}
 use Rattle.model.specs.Bursts.{decide}
 use Rattle.model.specs.Engine.{Step, outcome, step}
 use Rattle.model.specs.Rings.{Controller, viewRings, settleRings, guardRings, rings}
@@ -84,6 +84,7 @@ module _ (l : Controller) (o : List ℕ) where
   shows-same Ops = tt
   shows-same IbiConfig = tt
   shows-same DevChar = tt
+  shows-same (Watermark i) = tt
   shows-same (OffloadCmd i) = tt
   shows-same (OffloadSdo i) = tt
   shows-same Unmapped = tt
@@ -94,6 +95,7 @@ module _ (l : Controller) (o : List ℕ) where
   shown-same ops = refl
   shown-same ibiConfig = refl
   shown-same devChar = refl
+  shown-same (watermark q) = refl
   shown-same (offloadCmd i) = refl
   shown-same (offloadSdo i) = refl
 
@@ -116,12 +118,20 @@ module _ (l : Controller) (o : List ℕ) where
   read-blind acknowledges h = blind _ _ refl refl refl refl
 
   -- ── Writes ──────────────────────────────────────────────────────────────────────────────────────────────────
+  cap-same : (q : Queue) → of q (viewRings m .queues) .cap ≡ of q (viewRings l .queues) .cap
+  cap-same Cmd = refl
+  cap-same Cmdr = refl
+  cap-same Sdo = refl
+  cap-same Sdi = refl
+  cap-same Ibi = refl
+
   stored-blind : (c : Cell) (v : ℕ) → Blind (write (holds c) (viewRings l) v) (write (holds c) (viewRings m) v)
   stored-blind scratch v = blind _ _ refl refl refl refl
   stored-blind mask v = blind _ _ refl refl refl refl
   stored-blind ops v = blind _ _ refl refl refl refl
   stored-blind ibiConfig v = blind _ _ refl refl refl refl
   stored-blind devChar v = blind _ _ refl refl refl refl
+  stored-blind (watermark q) v = blind _ _ (ap (λ (k : ℕ). cond (ltb k (v % 2 ^ 16)) (some 30) none) (cap-same q)) refl refl refl
   stored-blind (offloadCmd i) v = blind _ _ refl refl refl refl
   stored-blind (offloadSdo i) v = blind _ _ refl refl refl refl
 

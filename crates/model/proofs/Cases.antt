@@ -15,6 +15,7 @@ use Rattle.model.specs.Rings.{onRing, onStore, guardRings}
 use Rattle.model.specs.Demand.{tally}
 use Rattle.model.specs.Cases.{answered, allHold, rounds, worked, thirdByte, releasedCase, fifthWrite, cccAlone, addresses, fiveBytes, interrupt8, receipt257, table, Hold}
 use Rattle.model.specs.Removal.{refusedOnce, roundedUp, fewer, noBytes, kinds, roundTheEnd, othersKeep, assignmentKeeps, noRoomKeeps, burstKeeps, sessions, RemovalsWork}
+use Rattle.model.specs.Watermarks.{eachItsOwnMark, upToTheCapacity, sourcesFollow, whileABurstIsOpen, WatermarksWork}
 use Rattle.model.specs.EmptyRead.{noneYet, eachItsOwn, forgotten, pastTheWrap, EmptyReadsWork}
 use Rattle.model.specs.BurstLaw.{after}
 use Rattle.model.specs.BurstCases.{callsOf, sampling, attaching, refusing, openedBurst, shortened, BurstsWork}
@@ -67,3 +68,7 @@ removals-work = refl
 pub empty-reads-work : EmptyReadsWork
 unfolding steps answered allHold noneYet eachItsOwn forgotten pastTheWrap EmptyReadsWork
 empty-reads-work = refl
+
+pub watermarks-work : WatermarksWork
+unfolding steps answered allHold eachItsOwnMark upToTheCapacity sourcesFollow whileABurstIsOpen WatermarksWork
+watermarks-work = refl

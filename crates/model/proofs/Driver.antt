@@ -1,5 +1,5 @@
 -- The laws for authors of drivers.
-use Prim.Native.Nat.{ℕ, zero, suc, _+_, _-_, _*_, _^_, _<_, _≤_}
+use Prim.Native.Nat.{ℕ, zero, suc, _+_, _-_, _*_, _^_, _<_, _≤_, _%_}
 use native.Mathlib.Omega.{arith}
 use mathlib.Core.Path.{_≡_, refl, ap, sym, _∙_, subst}
 use mathlib.Core.Bool.{Bool, true, false, cond, not, _&&_, _||_, true≢false, false≢true}
@@ -12,6 +12,7 @@ use borrow.Author.Tests.{eq-eqb, eqb-true, eqb-false, not-true, not-false}
 use Rattle.ring.specs.declared.Ring.{Ring}
 use Rattle.ring.specs.Ring.{entries}
 use Rattle.ring.proofs.Laws.{entries-length, entries-take}
+use Rattle.bank.specs.declared.Counts.{Counts}
 use Rattle.bank.specs.declared.Control.{Control}
 use Rattle.bank.specs.declared.Phase.{Phase}
 use Rattle.bank.specs.Queues.{Queues, queuesIn}
@@ -27,7 +28,7 @@ use Rattle.bank.specs.Bits.{bit, bits}
 use Rattle.model.specs.View.{Queue, Cmd, Cmdr, Sdo, Sdi, Ibi, of, View}
 use Rattle.model.specs.Decision.{QueueOp, take, only, Effect, Decision, does, _⇒_∣_, first, effect}
 use Rattle.model.specs.Commands.{receiptWord}
-use Rattle.model.specs.Registers.{Cell, scratch, mask, ops, ibiConfig, devChar, offloadCmd, offloadSdo, Row, absent, shows, holds, pushes, takes, enables, acknowledges, row, shown, clears, released, noted, taken, burstHolds, enable, read, write}
+use Rattle.model.specs.Registers.{Cell, scratch, mask, ops, ibiConfig, devChar, watermark, offloadCmd, offloadSdo, Row, absent, shows, holds, pushes, takes, enables, acknowledges, row, shown, clears, released, noted, taken, countOf, countsWith, burstHolds, aboveCapacity, enable, read, write}
 use Rattle.model.specs.Calls.{allowed, finish}
 use Rattle.model.specs.Bursts.{shortInBurst, decide}
 use Rattle.bank.specs.Bursts.{bursting}
@@ -63,11 +64,12 @@ read-held l o c f z e = rw (f, z, e)
 
 pub plain-write-taken : PlainWriteTaken
 unfolding PlainWriteTaken step guardRings
-plain-write-taken l o v c e f z = rw (f, eq-eqb (length (l .store)) (total (l .bank .state .caps)) z, e) (by-burst (burstHolds c && bursting (l .bank .state .control)))
+plain-write-taken l o v c e f z = rw (f, eq-eqb (length (l .store)) (total (l .bank .state .caps)) z, e) (by-tests (burstHolds c && bursting (l .bank .state .control)) (aboveCapacity c v (viewRings l)))
   where
-    by-burst : (b : Bool) → (let x = effect (write (holds c) (viewRings l) v) in outcome (cond b (some 6) none) x l (settleRings l x) .answer ≡ record { value = 0; number = cond b 6 0 })
-    by-burst true = refl
-    by-burst false = refl
+    by-tests : (a b : Bool) → (let x = effect (write (holds c) (viewRings l) v) in outcome (cond a (some 6) (cond b (some 30) none)) x l (settleRings l x) .answer ≡ record { value = 0; number = cond a 6 (cond b 30 0) })
+    by-tests true b = refl
+    by-tests false true = refl
+    by-tests false false = refl
 
 -- ── Read back ─────────────────────────────────────────────────────────────────────────────────────────────────
 abbrev stored : Controller → Cell → ℕ → Controller
@@ -77,12 +79,20 @@ flags-back : (b : Bool) (t : List ℕ) (a w : ℕ) → a < length t → getD (co
 flags-back true t a w h = getD-set-same t a w 0 h
 flags-back false t a w h = refl
 
+count-back : (q : Queue) (x : ℕ) (m : Counts) → countOf q (countsWith q x m) ≡ x
+count-back Cmd x m = refl
+count-back Cmdr x m = refl
+count-back Sdo x m = refl
+count-back Sdi x m = refl
+count-back Ibi x m = refl
+
 stored-shown : (l : Controller) (c : Cell) (v : ℕ) → Within c v l → shown c (viewRings (stored l c v)) ≡ shownOf c v l
 stored-shown l scratch v w = refl
 stored-shown l mask v w = refl
 stored-shown l ops v w = refl
 stored-shown l ibiConfig v w = refl
 stored-shown l devChar v w = ap (λ (x : ℕ). bits 15 9 v * 2 ^ 9 + x * 2) (flags-back (bit 8 v) (l .bank .flags) (bits 15 9 v) (bits 3 1 v) w)
+stored-shown l (watermark q) v w = count-back q (v % 2 ^ 16) (l .bank .state .regs .marks)
 stored-shown l (offloadCmd i) v w = getD-set-same (l .bank .commands) i v 0 w
 stored-shown l (offloadSdo i) v w = getD-set-same (l .bank .payloads) i v 0 w
 

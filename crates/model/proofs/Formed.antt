@@ -1,12 +1,12 @@
 -- `formed.kept`, part by part: rings, registers, flags, phase, and what holds in reset.
 use Prim.Native.Nat.{ℕ, zero, suc, _+_, _-_, _*_, _/_, _%_, _^_, _≤_, _<_}
 use native.Mathlib.Omega.{arith}
-use mathlib.Core.Path.{_≡_, refl, ap, sym, _∙_}
+use mathlib.Core.Path.{_≡_, refl, ap, sym, subst, _∙_}
 use mathlib.Core.Bool.{Bool, true, false, cond, not, _&&_, _||_, true≢false, false≢true}
 use mathlib.Core.List.{List, [], _∷_}
 use lib.Dec.{leb, ltb, eqb, leb·zero}
 use lib.ListN.{set}
-use borrow.Author.Tests.{leb-false, eqb-true, lt-ltb, le-leb, eq-eqb}
+use borrow.Author.Tests.{ltb-false, leb-false, eqb-true, lt-ltb, le-leb, eq-eqb}
 use Rattle.ring.specs.declared.Ring.{Ring}
 use Rattle.bank.specs.Queues.{Queues, queuesIn}
 use Rattle.bank.specs.declared.Regs.{Regs}
@@ -28,7 +28,7 @@ use Rattle.bank.specs.Bits.{bit, bits}
 use Rattle.model.specs.View.{Queue, Cmd, Cmdr, Sdo, Sdi, Ibi, Five, of, Tables, View}
 use Rattle.model.specs.Decision.{QueueOp, Decision, effect}
 use Rattle.model.specs.Commands.{Command, firstWord, isEntdaa, isRead, lengthOf, opened, begun}
-use Rattle.model.specs.Registers.{Cell, scratch, mask, ops, ibiConfig, devChar, offloadCmd, offloadSdo, Row, absent, shows, holds, pushes, takes, enables, acknowledges, row, storedRegs, storedTables, pending, clears, enable, read, write}
+use Rattle.model.specs.Registers.{Cell, scratch, mask, ops, ibiConfig, devChar, watermark, offloadCmd, offloadSdo, Row, absent, shows, holds, pushes, takes, enables, acknowledges, row, countOf, countsWith, storedRegs, storedTables, aboveCapacity, pending, clears, enable, read, write}
 use Rattle.model.specs.Calls.{advanced, firstOfWord, lastOfWord, start, send, receive, finish, interrupt, request, takeAddress}
 use Rattle.model.specs.Bursts.{trigger, burstSend, burstReceive, burstFinish, decide}
 use Rattle.model.specs.Rings.{Controller, viewQueues, viewRings, onRing, onRings}
@@ -98,17 +98,45 @@ stored-regs mask v g h = let z = regs-of g h in regs-ok _ (z .0) (z .1) (z .2)
 stored-regs ops v g h = let z = regs-of g h in regs-ok _ (lt-ltb (v % 128) 128 (omega arith)) (z .1) (z .2)
 stored-regs ibiConfig v g h = let z = regs-of g h in regs-ok _ (z .0) (lt-ltb (v % 4) 4 (omega arith)) (z .2)
 stored-regs devChar v g h = let z = regs-of g h in regs-ok _ (z .0) (z .1) (lt-ltb (v / 512 % 128) 128 (omega arith))
+stored-regs (watermark q) v g h = let z = regs-of g h in regs-ok _ (z .0) (z .1) (z .2)
 stored-regs (offloadCmd i) v g h = h
 stored-regs (offloadSdo i) v g h = h
 
-pub stored-marks : (c : Cell) (v : ℕ) (g : Regs) → storedRegs c v g .marks ≡ g .marks
-stored-marks scratch v g = refl
-stored-marks mask v g = refl
-stored-marks ops v g = refl
-stored-marks ibiConfig v g = refl
-stored-marks devChar v g = refl
-stored-marks (offloadCmd i) v g = refl
-stored-marks (offloadSdo i) v g = refl
+-- five watermarks, each at most its capacity
+abbrev EachMost : Counts → Counts → Type 0
+EachMost m k = (leb (m .cmd .0) (k .cmd .0) ≡ true) × (leb (m .cmdr .0) (k .cmdr .0) ≡ true) × (leb (m .sdo .0) (k .sdo .0) ≡ true) × (leb (m .sdi .0) (k .sdi .0) ≡ true) × (leb (m .ibi .0) (k .ibi .0) ≡ true)
+
+marks-of : (m k : Counts) → marksOk m k ≡ true → EachMost m k
+unfolding marksOk
+marks-of m k h = five (leb (m .cmd .0) (k .cmd .0)) (leb (m .cmdr .0) (k .cmdr .0)) (leb (m .sdo .0) (k .sdo .0)) (leb (m .sdi .0) (k .sdi .0)) (leb (m .ibi .0) (k .ibi .0)) h
+
+marks-are : (m k : Counts) → EachMost m k → marksOk m k ≡ true
+unfolding marksOk
+marks-are m k z = all-five (leb (m .cmd .0) (k .cmd .0)) (leb (m .cmdr .0) (k .cmdr .0)) (leb (m .sdo .0) (k .sdo .0)) (leb (m .sdi .0) (k .sdi .0)) (leb (m .ibi .0) (k .ibi .0)) (z .0) (z .1) (z .2) (z .3) (z .4)
+
+marks-ok : (q : Queue) (x : ℕ) (m k : Counts) → leb x (countOf q k) ≡ true → EachMost m k → marksOk (countsWith q x m) k ≡ true
+marks-ok Cmd x m k e z = marks-are (countsWith Cmd x m) k (e, z .1, z .2, z .3, z .4)
+marks-ok Cmdr x m k e z = marks-are (countsWith Cmdr x m) k (z .0, e, z .2, z .3, z .4)
+marks-ok Sdo x m k e z = marks-are (countsWith Sdo x m) k (z .0, z .1, e, z .3, z .4)
+marks-ok Sdi x m k e z = marks-are (countsWith Sdi x m) k (z .0, z .1, z .2, e, z .4)
+marks-ok Ibi x m k e z = marks-are (countsWith Ibi x m) k (z .0, z .1, z .2, z .3, e)
+
+-- the capacities of a view are these
+abbrev pub Capped : Counts → View → Type 0
+Capped k s = (q : Queue) → of q (s .queues) .cap ≡ countOf q k
+
+stored-marks : (k : Counts) (c : Cell) (v : ℕ) (s : View) → Capped k s → aboveCapacity c v s ≡ false → marksOk (s .regs .marks) k ≡ true → marksOk (storedRegs c v (s .regs) .marks) k ≡ true
+stored-marks k scratch v s a e h = h
+stored-marks k mask v s a e h = h
+stored-marks k ops v s a e h = h
+stored-marks k ibiConfig v s a e h = h
+stored-marks k devChar v s a e h = h
+stored-marks k (watermark q) v s a e h =
+    let x = v % 2 ^ 16 in
+    let cap = of q (s .queues) .cap in
+    marks-ok q x (s .regs .marks) k (subst (λ (n : ℕ). leb x n ≡ true) (a q) (le-leb x cap (ltb-false cap x e))) (marks-of (s .regs .marks) k h)
+stored-marks k (offloadCmd i) v s a e h = h
+stored-marks k (offloadSdo i) v s a e h = h
 
 flags-set : (t : List ℕ) (i v : ℕ) → ltb v 8 ≡ true → flagsOk t ≡ true → flagsOk (set t i v) ≡ true
 unfolding flagsOk
@@ -128,6 +156,7 @@ stored-flags mask v t h = h
 stored-flags ops v t h = h
 stored-flags ibiConfig v t h = h
 stored-flags devChar v t h = flags-if (bit 8 v) (t .flags) (bits 15 9 v) (bits 3 1 v) (let z : v / 2 % 8 < 8 = omega arith in z) h
+stored-flags (watermark q) v t h = h
 stored-flags (offloadCmd i) v t h = h
 stored-flags (offloadSdo i) v t h = h
 
@@ -140,33 +169,33 @@ unfolding enable
 enable-kept k s true h = h
 enable-kept k s false h = h
 
-write-kept : (k : Counts) (s : View) (x : Row) (v : ℕ) → RegsFlags k (s .regs) (s .tables .flags) → (let e = effect (write x s v) in RegsFlags k (e .regs) (e .tables .flags))
-write-kept k s absent v h = h
-write-kept k s (shows f) v h = h
-write-kept k s (holds c) v h = (stored-regs c v (s .regs) (h .0), rw (stored-marks c v (s .regs)) (h .1), stored-flags c v (s .tables) (h .2))
-write-kept k s (pushes q) v h = h
-write-kept k s (takes q) v h = h
-write-kept k s enables v h = enable-kept k s (bit 0 v) h
-write-kept k s acknowledges v h = h
+write-kept : (k : Counts) (s : View) (x : Row) (v : ℕ) → Capped k s → Passed (write x s v) → RegsFlags k (s .regs) (s .tables .flags) → (let e = effect (write x s v) in RegsFlags k (e .regs) (e .tables .flags))
+write-kept k s absent v a p h = h
+write-kept k s (shows f) v a p h = h
+write-kept k s (holds c) v a p h = (stored-regs c v (s .regs) (h .0), stored-marks k c v s a (p .1 .0) (h .1), stored-flags c v (s .tables) (h .2))
+write-kept k s (pushes q) v a p h = h
+write-kept k s (takes q) v a p h = h
+write-kept k s enables v a p h = enable-kept k s (bit 0 v) h
+write-kept k s acknowledges v a p h = h
 
 read-kept : (k : Counts) (s : View) (x : Row) → RegsFlags k (s .regs) (s .tables .flags) → (let e = effect (read x s) in RegsFlags k (e .regs) (e .tables .flags))
 read-kept k s x h = let u = read-untouched s x in rw (u .regsSame, u .tablesSame) h
 
 abbrev KeepsRegsFlags : Counts → Decision → Type 0
-KeepsRegsFlags k d = RegsFlags k (effect d .regs) (effect d .tables .flags)
+KeepsRegsFlags k d = Passed d → RegsFlags k (effect d .regs) (effect d .tables .flags)
 
-pub regs-flags-kept : (k : Counts) (s : View) (c : Call) → RegsFlags k (s .regs) (s .tables .flags) → KeepsRegsFlags k (decide s c)
+pub regs-flags-kept : (k : Counts) (s : View) (c : Call) → Capped k s → RegsFlags k (s .regs) (s .tables .flags) → KeepsRegsFlags k (decide s c)
 unfolding start send receive finish interrupt request takeAddress trigger burstSend burstReceive burstFinish
-regs-flags-kept k s (Read o) h = read-kept k s (row (registerAt o)) h
-regs-flags-kept k s (Write o v) h = write-kept k s (row (registerAt o)) v h
-regs-flags-kept k s Start h = h
-regs-flags-kept k s Send h = of-two (KeepsRegsFlags k) (bursting (s .control)) (burstSend s) (send s) (λ e. h) (λ e. h)
-regs-flags-kept k s (Receive b) h = of-two (KeepsRegsFlags k) (bursting (s .control)) (burstReceive s b) (receive s b) (λ e. h) (λ e. h)
-regs-flags-kept k s (Finish code) h = of-two (KeepsRegsFlags k) (bursting (s .control)) (burstFinish s code) (finish s code) (λ e. h) (λ e. h)
-regs-flags-kept k s (Interrupt a b) h = h
-regs-flags-kept k s (Request v w) h = h
-regs-flags-kept k s Take h = h
-regs-flags-kept k s Trigger h = h
+regs-flags-kept k s (Read o) a h p = read-kept k s (row (registerAt o)) h
+regs-flags-kept k s (Write o v) a h p = write-kept k s (row (registerAt o)) v a p h
+regs-flags-kept k s Start a h p = h
+regs-flags-kept k s Send a h p = of-two (KeepsRegsFlags k) (bursting (s .control)) (burstSend s) (send s) (λ e f. h) (λ e f. h) (p .1)
+regs-flags-kept k s (Receive b) a h p = of-two (KeepsRegsFlags k) (bursting (s .control)) (burstReceive s b) (receive s b) (λ e f. h) (λ e f. h) (p .1)
+regs-flags-kept k s (Finish code) a h p = of-two (KeepsRegsFlags k) (bursting (s .control)) (burstFinish s code) (finish s code) (λ e f. h) (λ e f. h) (p .1 .1)
+regs-flags-kept k s (Interrupt d b) a h p = h
+regs-flags-kept k s (Request v w) a h p = h
+regs-flags-kept k s Take a h p = h
+regs-flags-kept k s Trigger a h p = h
 
 -- ── Phase ─────────────────────────────────────────────────────────────────────────────────────────────────────
 -- its three tests

@@ -25,7 +25,7 @@ use Rattle.model.specs.declared.Call.the-variants.{Read, Write, Start, S
 use Rattle.model.specs.View.{View}
 use Rattle.model.specs.Decision.{Decision, effect}
 use Rattle.model.specs.Commands.{Single, isEntdaa, isRead, opened, begun}
-use Rattle.model.specs.Registers.{Cell, scratch, mask, ops, ibiConfig, devChar, offloadCmd, offloadSdo, Row, absent, shows, holds, pushes, takes, enables, acknowledges, row, enable, read, write}
+use Rattle.model.specs.Registers.{Cell, scratch, mask, ops, ibiConfig, devChar, watermark, offloadCmd, offloadSdo, Row, absent, shows, holds, pushes, takes, enables, acknowledges, row, enable, read, write}
 use Rattle.model.specs.Calls.{start, send, receive, finish, interrupt, request, takeAddress}
 use Rattle.model.specs.Bursts.{opening, lastCommand, delivered, dataWord, trigger, burstSend, burstReceive, burstFinish, decide}
 use Rattle.model.specs.Engine.{step}
@@ -293,6 +293,7 @@ module _ (l : Controller) (g : Log) (s : View) (h : GoesOn l s g) where
   stored-stays ops v e f = absurd (true≢false (sym e ∙ f .0))
   stored-stays ibiConfig v e f = h
   stored-stays devChar v e f = h
+  stored-stays (watermark q) v e f = h
   stored-stays (offloadCmd i) v e f = absurd (true≢false (sym e ∙ f .0))
   stored-stays (offloadSdo i) v e f = absurd (true≢false (sym e ∙ f .0))
 

@@ -27,17 +27,17 @@ use Rattle.bank.specs.declared.Answer.{Answer}
 use Rattle.bank.specs.Bits.{bit}
 use Rattle.model.specs.View.{Queue, Cmd, Cmdr, Sdo, Sdi, Ibi, of, Tables, View}
 use Rattle.model.specs.Decision.{QueueOp, keep, keepAll, only, Decision, first, effect}
-use Rattle.model.specs.Registers.{Cell, scratch, mask, ops, ibiConfig, devChar, offloadCmd, offloadSdo, Row, absent, shows, holds, pushes, takes, enables, acknowledges, row, storedTables, enable, read, write}
+use Rattle.model.specs.Registers.{Cell, scratch, mask, ops, ibiConfig, devChar, watermark, offloadCmd, offloadSdo, Row, absent, shows, holds, pushes, takes, enables, acknowledges, row, storedTables, enable, read, write}
 use Rattle.model.specs.Calls.{start, send, receive, finish, interrupt, request, takeAddress}
 use Rattle.model.specs.Bursts.{trigger, burstSend, burstReceive, burstFinish, decide}
 use Rattle.model.specs.Engine.{Step, outcome, step, Lent, stepLent, final, answers}
 use Rattle.model.specs.Rings.{Controller, Area, areas, wordsIn, viewRings, onRing, onStore, settleRings, guardRings, rings}
 use Rattle.model.specs.Lists.{Lists, lists, onWords}
-use Rattle.model.specs.Laws.{freshController, freshLists, EnginesAgree, RefusalChangesNothing, RefusalShowsNothing, StoreKeepsLength, OutputKeepsLength, WatermarksStay, sameQueue, readNames, writeNames, names, OthersStay}
+use Rattle.model.specs.Laws.{freshController, freshLists, EnginesAgree, RefusalChangesNothing, RefusalShowsNothing, StoreKeepsLength, OutputKeepsLength, sameQueue, readNames, writeNames, names, OthersStay}
 use Rattle.model.proofs.Tests.{Passed, passed, of-two, of-take, Refusal, refusal}
 use Rattle.model.proofs.Numbers.{ofEffect, write-number, effect-number, all-refusals}
 use Rattle.model.proofs.Room.{fits}
-use Rattle.model.proofs.Formed.{read-untouched, stored-marks}
+use Rattle.model.proofs.Formed.{read-untouched}
 use Rattle.model.proofs.Rings.{listed, length-all, base-same, settled-words, onArea}
 use Rattle.model.proofs.Simulation.{Sound, lent-same, lent-stays, same-final}
 
@@ -135,6 +135,7 @@ stored-output mask v t = refl
 stored-output ops v t = refl
 stored-output ibiConfig v t = refl
 stored-output devChar v t = refl
+stored-output (watermark q) v t = refl
 stored-output (offloadCmd i) v t = refl
 stored-output (offloadSdo i) v t = refl
 
@@ -176,41 +177,6 @@ output-length s Trigger = refl
 pub output-keeps-length : OutputKeepsLength
 unfolding OutputKeepsLength
 output-keeps-length l c = by-outcome (λ r. length (r .next .output) ≡ length (l .output)) l c (λ n k. refl) (λ f z p. output-length (viewRings l) c)
-
--- ── The watermarks ────────────────────────────────────────────────────────────────────────────────────────────
-enable-marks : (s : View) (b : Bool) → enable s b .regs .marks ≡ s .regs .marks
-unfolding enable
-enable-marks s true = refl
-enable-marks s false = refl
-
-write-marks : (s : View) (x : Row) (v : ℕ) → effect (write x s v) .regs .marks ≡ s .regs .marks
-write-marks s absent v = refl
-write-marks s (shows f) v = refl
-write-marks s (holds c) v = stored-marks c v (s .regs)
-write-marks s (pushes q) v = refl
-write-marks s (takes q) v = refl
-write-marks s enables v = enable-marks s (bit 0 v)
-write-marks s acknowledges v = refl
-
-abbrev KeepsMarks : View → Decision → Type 0
-KeepsMarks s d = effect d .regs .marks ≡ s .regs .marks
-
-marks-kept : (s : View) (c : Call) → KeepsMarks s (decide s c)
-unfolding start send receive finish interrupt request takeAddress trigger burstSend burstReceive burstFinish
-marks-kept s (Read o) = ap (λ (g : Regs). g .marks) (read-untouched s (row (registerAt o)) .regsSame)
-marks-kept s (Write o v) = write-marks s (row (registerAt o)) v
-marks-kept s Start = refl
-marks-kept s Send = of-two (KeepsMarks s) (bursting (s .control)) (burstSend s) (send s) (λ e. refl) (λ e. refl)
-marks-kept s (Receive b) = of-two (KeepsMarks s) (bursting (s .control)) (burstReceive s b) (receive s b) (λ e. refl) (λ e. refl)
-marks-kept s (Finish code) = of-two (KeepsMarks s) (bursting (s .control)) (burstFinish s code) (finish s code) (λ e. refl) (λ e. refl)
-marks-kept s (Interrupt a b) = refl
-marks-kept s (Request v w) = refl
-marks-kept s Take = refl
-marks-kept s Trigger = refl
-
-pub watermarks-stay : WatermarksStay
-unfolding WatermarksStay
-watermarks-stay l c = by-outcome (λ r. r .next .bank .state .regs .marks ≡ l .bank .state .regs .marks) l c (λ n k. refl) (λ f z p. marks-kept (viewRings l) c)
 
 -- ── Queues that a call does not name ──────────────────────────────────────────────────────────────────────────
 kept-all : (k : Queue) → of k keepAll ≡ keep

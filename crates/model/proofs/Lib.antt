@@ -19,6 +19,7 @@ pub mod Cases
 pub mod Driver
 pub mod Removal
 pub mod EmptyRead
+pub mod Watermarks
 pub mod Endings
 pub mod Alone
 pub mod Inside

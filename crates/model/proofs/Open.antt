@@ -25,7 +25,7 @@ use Rattle.model.specs.declared.Call.the-variants.{Read, Write, Start, S
 use Rattle.model.specs.View.{Tables, View}
 use Rattle.model.specs.Decision.{Decision, effect}
 use Rattle.model.specs.Commands.{Single, isEntdaa, isRead, kindOf, lengthOf, opened, begun}
-use Rattle.model.specs.Registers.{Cell, scratch, mask, ops, ibiConfig, devChar, offloadCmd, offloadSdo, Row, absent, shows, holds, pushes, takes, enables, acknowledges, row, storedRegs, storedTables, burstHolds, clears, enable, read, write}
+use Rattle.model.specs.Registers.{Cell, scratch, mask, ops, ibiConfig, devChar, watermark, offloadCmd, offloadSdo, Row, absent, shows, holds, pushes, takes, enables, acknowledges, row, storedRegs, storedTables, burstHolds, clears, enable, read, write}
 use Rattle.model.specs.Calls.{command, attached, advanced, start, send, receive, finish, interrupt, request, takeAddress}
 use Rattle.model.specs.Bursts.{burstAt, lastCommand, trigger, burstSend, burstReceive, burstFinish, decide}
 use Rattle.model.proofs.Tests.{Passed, of-two}
@@ -262,6 +262,7 @@ stored-open mask v s e h = h
 stored-open ops v s e h = direct-ok (s .control) (storedRegs ops v (s .regs)) (s .phase) (s .tables .commands) e (direct-of (s .control) (s .regs) (s .phase) (s .tables .commands) e h)
 stored-open ibiConfig v s e h = h
 stored-open devChar v s e h = h
+stored-open (watermark q) v s e h = h
 stored-open (offloadCmd i) v s e h = direct-ok (s .control) (s .regs) (s .phase) (set (s .tables .commands) i v) e (direct-of (s .control) (s .regs) (s .phase) (s .tables .commands) e h)
 stored-open (offloadSdo i) v s e h = h
 

@@ -13,7 +13,7 @@ use Rattle.bank.specs.SetUp.{bankOf, total}
 use Rattle.bank.specs.Formed.{wellFormed}
 use Rattle.bank.proofs.Laws.{Formed, formed-is, formed-of, ready, bank-is, fresh-formed}
 use Rattle.model.specs.declared.Call.{Call}
-use Rattle.model.specs.View.{View}
+use Rattle.model.specs.View.{Cmd, Cmdr, Sdo, Sdi, Ibi, View}
 use Rattle.model.specs.Decision.{first, Effect, effect}
 use Rattle.model.specs.Bursts.{decide}
 use Rattle.model.specs.Engine.{Step, outcome, step, Lent, stepLent, final}
@@ -23,7 +23,7 @@ use Rattle.model.specs.Laws.{IllFormed, WrongLength, SetUpWellFormed, St
 use Rattle.model.proofs.Tests.{Passed, passed}
 use Rattle.model.proofs.Room.{fits}
 use Rattle.model.proofs.Rings.{listed, view-same, ready-after, settled-same, caps-same}
-use Rattle.model.proofs.Formed.{queues-kept, regs-flags-kept, reset-kept}
+use Rattle.model.proofs.Formed.{Capped, queues-kept, regs-flags-kept, reset-kept}
 use Rattle.model.proofs.Open.{open-kept}
 
 abbrev RightLength : Controller → Type 0
@@ -38,6 +38,13 @@ pub record Sound (l : Controller) (m : Lists) : Type 0 where
 abbrev decision : Controller → Call → Effect
 decision l c = effect (decide (viewRings l) c)
 
+capped : (l : Controller) → Capped (l .bank .state .caps) (viewRings l)
+capped l Cmd = refl
+capped l Cmdr = refl
+capped l Sdo = refl
+capped l Sdi = refl
+capped l Ibi = refl
+
 -- one call that no test refuses
 served-sound : (l : Controller) (c : Call) → Passed (decide (viewRings l) c) → Formed (l .bank) → RightLength l → Sound (settleRings l (decision l c)) (settleLists (listed l) (decision l c))
 served-sound l c f h z =
@@ -46,7 +53,7 @@ served-sound l c f h z =
     let q = queuesIn (l .bank) in
     let k = fits s c f in
     let r = ready q (l .store) (h .queues) z in
-    let g = regs-flags-kept (l .bank .state .caps) s c (h .regs, h .marks, h .flags) in
+    let g = regs-flags-kept (l .bank .state .caps) s c (capped l) (h .regs, h .marks, h .flags) f in
     record {
       is = settled-same l e r k;
       formed = record { queues = queues-kept q (l .store) (e .ops) k (h .queues); regs = g .0; marks = rw (caps-same q (l .store) (e .ops) r) (g .1); phase = open-kept s c (h .phase) f; reset = reset-kept l c (h .reset) f; flags = g .2 };

@@ -20,7 +20,7 @@ use Rattle.bank.specs.Bits.{bit, bits, wordIf}
 use Rattle.model.specs.View.{View, Queue, Cmdr, Sdo, Ibi, of, full, last}
 use Rattle.model.specs.Commands.{receiptWord}
 use Rattle.model.specs.Calls.{padded}
-use Rattle.model.specs.Registers.{Cell, scratch, mask, ops, ibiConfig, devChar, offloadCmd, offloadSdo, Row, absent, shows, holds, pushes, takes, enables, acknowledges, burstHolds, row, notedIn}
+use Rattle.model.specs.Registers.{Cell, scratch, mask, ops, ibiConfig, devChar, watermark, offloadCmd, offloadSdo, Row, absent, shows, holds, pushes, takes, enables, acknowledges, burstHolds, aboveCapacity, row, notedIn}
 use Rattle.model.specs.Engine.{step, Lent, lending, final}
 use Rattle.model.specs.Rings.{Controller, areas, wordsIn, viewRings, rings}
 use Rattle.model.specs.Laws.{freshController, sameQueue}
@@ -33,6 +33,7 @@ shownOf mask v l = v % 2 ^ 8
 shownOf ops v l = wordIf (idle (l .bank .state .phase)) 128 + v % 2 ^ 7
 shownOf ibiConfig v l = 0
 shownOf devChar v l = bits 15 9 v * 2 ^ 9 + cond (bit 8 v) (bits 3 1 v) (getD (l .bank .flags) (bits 15 9 v) 0) * 2
+shownOf (watermark q) v l = v % 2 ^ 16
 shownOf (offloadCmd i) v l = v
 shownOf (offloadSdo i) v l = v
 
@@ -43,14 +44,15 @@ Within mask v l = Unit {0}
 Within ops v l = Unit {0}
 Within ibiConfig v l = Unit {0}
 Within devChar v l = bits 15 9 v < length (l .bank .flags)
+Within (watermark q) v l = Unit {0}
 Within (offloadCmd i) v l = i < length (l .bank .commands)
 Within (offloadSdo i) v l = i < length (l .bank .payloads)
 
--- `access.reset`, `burst.holds`: a write to such a register is taken, in reset too, but to OPS and the offload memories not while a burst
--- is open: then it is 6
+-- `access.reset`, `burst.holds`, `watermark.keeps`: a write to such a register is taken, in reset too, but to OPS and the offload memories
+-- not while a burst is open, then it is 6, and to a watermark not above the capacity, then it is 30
 unfoldable pub PlainWriteTaken : Type 0
 PlainWriteTaken =
-    (l : Controller) (o v : ℕ) (c : Cell) → row (registerAt o) ≡ holds c → wellFormed (l .bank) ≡ true → length (l .store) ≡ total (l .bank .state .caps) → step rings l (Write o v) .answer ≡ record { value = 0; number = cond (burstHolds c && bursting (l .bank .state .control)) 6 0 }
+    (l : Controller) (o v : ℕ) (c : Cell) → row (registerAt o) ≡ holds c → wellFormed (l .bank) ≡ true → length (l .store) ≡ total (l .bank .state .caps) → step rings l (Write o v) .answer ≡ record { value = 0; number = cond (burstHolds c && bursting (l .bank .state .control)) 6 (cond (aboveCapacity c v (viewRings l)) 30 0) }
 
 unfoldable pub ReadBack : Type 0
 ReadBack =

@@ -79,10 +79,6 @@ StoreKeepsLength = (l : Controller) (c : Call) → length (step rings l c .next 
 unfoldable pub OutputKeepsLength : Type 0
 OutputKeepsLength = (l : Controller) (c : Call) → length (step rings l c .next .output) ≡ length (l .output)
 
--- `set-up.stays`: no call changes a watermark
-unfoldable pub WatermarksStay : Type 0
-WatermarksStay = (l : Controller) (c : Call) → step rings l c .next .bank .state .regs .marks ≡ l .bank .state .regs .marks
-
 -- ── Accesses and the output ───────────────────────────────────────────────────────────────────────────────────
 abbrev pub isAccess : Call → Bool
 isAccess (Read o) = true

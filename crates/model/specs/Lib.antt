@@ -16,5 +16,6 @@ pub mod Tallies
 pub mod Driver
 pub mod Removal
 pub mod EmptyRead
+pub mod Watermarks
 pub mod Endings
 pub mod Fits

@@ -1,9 +1,11 @@
 -- One row for each register of 01's map: what a read is answered and what a write does follow from the row alone.
 use Prim.Native.Nat.{ℕ, _+_, _*_, _%_, _^_}
 use mathlib.Core.Bool.{Bool, true, false, cond, not, _&&_}
-use lib.Dec.{ltb}
+use lib.Dec.{ltb, eqb}
 use lib.ListN.{getD, set}
 use Rattle.number.specs.Names as number
+use Rattle.ring.specs.Units.{words}
+use Rattle.bank.specs.declared.Counts.{Counts}
 use Rattle.bank.specs.declared.Regs.{Regs}
 use Rattle.bank.specs.declared.Latest.{Latest}
 use Rattle.bank.specs.declared.Control.{Control}
@@ -12,7 +14,7 @@ use Rattle.bank.specs.Phases.{idle}
 use Rattle.bank.specs.Bursts.{bursting}
 use Rattle.bank.specs.SetUp.{cleared}
 use Rattle.registers.specs.declared.Register.{Register}
-use Rattle.registers.specs.declared.Register.the-variants.{Version, Id, Scratch, Enable, IrqMask, IrqPending, IrqSource, CmdRoom, CmdrLevel, SdoRoom, SdiLevel, IbiLevel, CmdFifo, CmdrFifo, SdoFifo, SdiFifo, IbiFifo, FifoStatus, Ops, IbiConfig, DevChar, OffloadCmd, OffloadSdo, Unmapped}
+use Rattle.registers.specs.declared.Register.the-variants.{Version, Id, Scratch, Enable, IrqMask, IrqPending, IrqSource, CmdRoom, CmdrLevel, SdoRoom, SdiLevel, IbiLevel, CmdFifo, CmdrFifo, SdoFifo, SdiFifo, IbiFifo, FifoStatus, Ops, IbiConfig, DevChar, Watermark, OffloadCmd, OffloadSdo, Unmapped}
 use Rattle.bank.specs.Bits.{bit, bits, wordIf}
 use Rattle.model.specs.View.{Queue, Cmd, Cmdr, Sdo, Sdi, Ibi, each, of, room, empty, full, last, Tables, View}
 use Rattle.model.specs.Decision.{clear, take, push, only, Effect, unchanged, _withValue_, _withNumber_, _withRegs_, _withControl_, _withPhase_, _withTables_, _withQueues_, Decision, does, _⇒_∣_}
@@ -20,6 +22,7 @@ use Rattle.model.specs.Decision.{clear, take, push, only, Effect, unchan
 -- the registers that keep what is written
 pub data Cell : Type 0 where
   scratch mask ops ibiConfig devChar : Cell
+  watermark : Queue → Cell
   offloadCmd offloadSdo : ℕ → Cell
 
 -- what a register does with reads and writes
@@ -55,6 +58,10 @@ sources m s =
 abbrev pub status : View → ℕ
 status s = wordIf (empty (s .queues .cmdr)) 1 + wordIf (empty (s .queues .ibi)) 2 + wordIf (empty (s .queues .sdi)) 4
 
+-- the queue of a watermark register, in the order of `store.order`
+abbrev pub queueAt : ℕ → Queue
+queueAt i = cond (eqb i 0) Cmd (cond (eqb i 1) Cmdr (cond (eqb i 2) Sdo (cond (eqb i 3) Sdi Ibi)))
+
 -- the row of each register. Those that show a number: `version.value`, `id.value`, `source.read`, `room.read`, `level.read`, `status.read`.
 abbrev pub row : Register → Row
 row Version = shows (λ s. 0x00000100)
@@ -78,9 +85,27 @@ row FifoStatus = shows status
 row Ops = holds ops
 row IbiConfig = holds ibiConfig
 row DevChar = holds devChar
+row (Watermark i) = holds (watermark (queueAt i))
 row (OffloadCmd i) = holds (offloadCmd i)
 row (OffloadSdo i) = holds (offloadSdo i)
 row Unmapped = absent
+
+-- ── Watermarks ────────────────────────────────────────────────────────────────────────────────────────────────
+-- one of five numbers, by its queue
+abbrev pub countOf : Queue → Counts → ℕ
+countOf Cmd m = m .cmd .0
+countOf Cmdr m = m .cmdr .0
+countOf Sdo m = m .sdo .0
+countOf Sdi m = m .sdi .0
+countOf Ibi m = m .ibi .0
+
+-- five numbers with x for that of a queue
+abbrev pub countsWith : Queue → ℕ → Counts → Counts
+countsWith Cmd x m = record { cmd = words x; cmdr = m .cmdr; sdo = m .sdo; sdi = m .sdi; ibi = m .ibi }
+countsWith Cmdr x m = record { cmd = m .cmd; cmdr = words x; sdo = m .sdo; sdi = m .sdi; ibi = m .ibi }
+countsWith Sdo x m = record { cmd = m .cmd; cmdr = m .cmdr; sdo = words x; sdi = m .sdi; ibi = m .ibi }
+countsWith Sdi x m = record { cmd = m .cmd; cmdr = m .cmdr; sdo = m .sdo; sdi = words x; ibi = m .ibi }
+countsWith Ibi x m = record { cmd = m .cmd; cmdr = m .cmdr; sdo = m .sdo; sdi = m .sdi; ibi = words x }
 
 -- ── Stored fields ─────────────────────────────────────────────────────────────────────────────────────────────
 -- What a read gives: of OPS bit 7 from the phase (`ops.keeps`), of IBI_CONFIG 0 (`map.write-only`), of DEV_CHAR the selected address and
@@ -91,17 +116,19 @@ shown mask s = s .regs .mask
 shown ops s = wordIf (idle (s .phase)) 0x80 + s .regs .ops
 shown ibiConfig s = 0
 shown devChar s = s .regs .selected * 2 ^ 9 + device (s .regs .selected) s * 2
+shown (watermark q) s = countOf q (s .regs .marks)
 shown (offloadCmd i) s = getD (s .tables .commands) i 0
 shown (offloadSdo i) s = getD (s .tables .payloads) i 0
 
 -- What a write keeps among the registers, by `map.bits`: `scratch.keeps`, `mask.keeps`, `ops.keeps`, `ibi-config.keeps`,
--- `dev-char.select`.
+-- `dev-char.select`, `watermark.keeps`.
 abbrev pub storedRegs : Cell → ℕ → Regs → Regs
 storedRegs scratch v g = record { id = g .id; scratch = v; mask = g .mask; ops = g .ops; config = g .config; selected = g .selected; marks = g .marks }
 storedRegs mask v g = record { id = g .id; scratch = g .scratch; mask = v % 2 ^ 8; ops = g .ops; config = g .config; selected = g .selected; marks = g .marks }
 storedRegs ops v g = record { id = g .id; scratch = g .scratch; mask = g .mask; ops = v % 2 ^ 7; config = g .config; selected = g .selected; marks = g .marks }
 storedRegs ibiConfig v g = record { id = g .id; scratch = g .scratch; mask = g .mask; ops = g .ops; config = v % 2 ^ 2; selected = g .selected; marks = g .marks }
 storedRegs devChar v g = record { id = g .id; scratch = g .scratch; mask = g .mask; ops = g .ops; config = g .config; selected = bits 15 9 v; marks = g .marks }
+storedRegs (watermark q) v g = record { id = g .id; scratch = g .scratch; mask = g .mask; ops = g .ops; config = g .config; selected = g .selected; marks = countsWith q (v % 2 ^ 16) (g .marks) }
 storedRegs (offloadCmd i) v g = g
 storedRegs (offloadSdo i) v g = g
 
@@ -113,6 +140,7 @@ storedTables mask v t = t
 storedTables ops v t = t
 storedTables ibiConfig v t = t
 storedTables devChar v t = record { flags = cond (bit 8 v) (set (t .flags) (bits 15 9 v) (bits 3 1 v)) (t .flags); commands = t .commands; payloads = t .payloads; output = t .output }
+storedTables (watermark q) v t = t
 storedTables (offloadCmd i) v t = record { flags = t .flags; commands = set (t .commands) i v; payloads = t .payloads; output = t .output }
 storedTables (offloadSdo i) v t = record { flags = t .flags; commands = t .commands; payloads = set (t .payloads) i v; output = t .output }
 
@@ -123,8 +151,20 @@ burstHolds mask = false
 burstHolds ops = true
 burstHolds ibiConfig = false
 burstHolds devChar = false
+burstHolds (watermark q) = false
 burstHolds (offloadCmd i) = true
 burstHolds (offloadSdo i) = true
+
+-- 30 of `watermark.keeps`: the named bits of v are above the capacity of the queue whose watermark is written
+abbrev pub aboveCapacity : Cell → ℕ → View → Bool
+aboveCapacity scratch v s = false
+aboveCapacity mask v s = false
+aboveCapacity ops v s = false
+aboveCapacity ibiConfig v s = false
+aboveCapacity devChar v s = false
+aboveCapacity (watermark q) v s = ltb (of q (s .queues) .cap) (v % 2 ^ 16)
+aboveCapacity (offloadCmd i) v s = false
+aboveCapacity (offloadSdo i) v s = false
 
 -- ── Control bits ──────────────────────────────────────────────────────────────────────────────────────────────
 -- the control bits with these pending bits: r is bit 5 (receipt), i bit 6 (interrupt), a bit 7 (address request)
@@ -200,12 +240,15 @@ read enables s = does (unchanged s withValue wordIf (s .control .held) 1)
 read acknowledges s = does (unchanged s withValue sources (s .regs .mask) s)
 
 -- A write, by the register's row (`access.order`). Without a register it is 4, to one that is only read 2 (`map.read-only`), to one that an
--- open burst holds 6 (`burst.holds`). CMD and SDO take the word, with 5 in reset and 1 where they are full (`cmd.push`, `sdo.push`). All
+-- open burst holds 6 (`burst.holds`), to a watermark 30 where it would be above the capacity (`watermark.keeps`). CMD and SDO take the word, with 5 in reset and 1 where they are full (`cmd.push`, `sdo.push`). All
 -- else is 0, whatever bits are set (`map.ignored`).
 abbrev pub write : Row → View → ℕ → Decision
 write absent s v = true ⇒ number.noRegister ∣ does (unchanged s)
 write (shows f) s v = true ⇒ number.droppedReadOnly ∣ does (unchanged s)
-write (holds c) s v = burstHolds c && bursting (s .control) ⇒ number.transferOpen ∣ does (unchanged s withRegs storedRegs c v (s .regs) withTables storedTables c v (s .tables))
+write (holds c) s v =
+    burstHolds c && bursting (s .control) ⇒ number.transferOpen
+    ∣ aboveCapacity c v s ⇒ number.watermarkAboveCapacity
+    ∣ does (unchanged s withRegs storedRegs c v (s .regs) withTables storedTables c v (s .tables))
 write (pushes q) s v =
     s .control .held ⇒ number.heldInReset ∣ full (of q (s .queues)) ⇒ number.droppedFull ∣ does (unchanged s withControl clears q true (s .control) withQueues only q (push v))
 write (takes q) s v = true ⇒ number.droppedReadOnly ∣ does (unchanged s)

@@ -116,3 +116,7 @@ burstHasNoCommands = 28
 -- a command of the burst is not carried
 abbrev pub notCarried : ℕ
 notCarried = 29
+
+-- the watermark written is above the capacity of its queue: dropped
+abbrev pub watermarkAboveCapacity : ℕ
+watermarkAboveCapacity = 30

@@ -86,3 +86,6 @@ pub const BURST_HAS_NO_COMMANDS: u32 = 28;
 
 // A command of the burst is not carried.
 pub const NOT_CARRIED: u32 = 29;
+
+// The watermark written is above the capacity of its queue: dropped.
+pub const WATERMARK_ABOVE_CAPACITY: u32 = 30;

@@ -41,7 +41,7 @@ read-within s (takes q) = of-take (Within (4 ∷ 3 ∷ [])) q s (λ e. refl) (λ
 read-within s enables = refl
 read-within s acknowledges = refl
 
-write-within : (s : View) (x : Row) (v : ℕ) → Within (4 ∷ 6 ∷ 2 ∷ 5 ∷ 1 ∷ []) (write x s v)
+write-within : (s : View) (x : Row) (v : ℕ) → Within (4 ∷ 6 ∷ 30 ∷ 2 ∷ 5 ∷ 1 ∷ []) (write x s v)
 write-within s absent v = refl
 write-within s (shows f) v = refl
 write-within s (holds c) v = refl

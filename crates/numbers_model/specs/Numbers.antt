@@ -21,7 +21,7 @@ use Rattle.model.specs.Rings.{Controller, viewRings, guardRings, rings}
 -- tests
 abbrev pub numbers : Call → List ℕ
 numbers (Read o) = number.notWellFormed ∷ number.storeLength ∷ number.noRegister ∷ number.empty ∷ []
-numbers (Write o v) = number.notWellFormed ∷ number.storeLength ∷ number.noRegister ∷ number.transferOpen ∷ number.droppedReadOnly ∷ number.heldInReset ∷ number.droppedFull ∷ []
+numbers (Write o v) = number.notWellFormed ∷ number.storeLength ∷ number.noRegister ∷ number.transferOpen ∷ number.watermarkAboveCapacity ∷ number.droppedReadOnly ∷ number.heldInReset ∷ number.droppedFull ∷ []
 numbers Start = number.notWellFormed ∷ number.storeLength ∷ number.noRoom ∷ number.heldInReset ∷ number.transferOpen ∷ number.notInThisMode ∷ number.noCommand ∷ number.sdoNotEmpty ∷ []
 numbers Send = number.notWellFormed ∷ number.storeLength ∷ number.noRoom ∷ number.heldInReset ∷ number.noTransfer ∷ number.notAttached ∷ number.notThisKind ∷ number.lengthReached ∷ number.sdoEmpty ∷ []
 numbers (Receive byte) = number.notWellFormed ∷ number.storeLength ∷ number.noRoom ∷ number.heldInReset ∷ number.noTransfer ∷ number.notAttached ∷ number.notThisKind ∷ number.lengthReached ∷ number.noRoom ∷ []

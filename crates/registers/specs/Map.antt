@@ -4,7 +4,7 @@ use mathlib.Core.Bool.{Bool, cond, _&&_}
 use mathlib.Core.List.{List, [], _∷_}
 use lib.Dec.{leb, eqb}
 use Rattle.registers.specs.declared.Register.{Register}
-use Rattle.registers.specs.declared.Register.the-variants.{Version, Id, Scratch, Enable, IrqMask, IrqPending, IrqSource, CmdRoom, CmdrLevel, SdoRoom, SdiLevel, IbiLevel, CmdFifo, CmdrFifo, SdoFifo, SdiFifo, IbiFifo, FifoStatus, Ops, IbiConfig, DevChar, OffloadCmd, OffloadSdo, Unmapped}
+use Rattle.registers.specs.declared.Register.the-variants.{Version, Id, Scratch, Enable, IrqMask, IrqPending, IrqSource, CmdRoom, CmdrLevel, SdoRoom, SdiLevel, IbiLevel, CmdFifo, CmdrFifo, SdoFifo, SdiFifo, IbiFifo, FifoStatus, Ops, IbiConfig, DevChar, Watermark, OffloadCmd, OffloadSdo, Unmapped}
 
 pub record Entry : Type 0 where
   pub offset : ℕ
@@ -25,6 +25,7 @@ named =
     ∷ 0x100 is Ops
     ∷ 0x140 is IbiConfig
     ∷ 0x180 is DevChar
+    ∷ 0x200 is Watermark 0 ∷ 0x204 is Watermark 1 ∷ 0x208 is Watermark 2 ∷ 0x20c is Watermark 3 ∷ 0x210 is Watermark 4
     ∷ []
 
 -- the offset of one of sixteen words from base on

@@ -3,7 +3,8 @@
 ghost use mathlib.Core.Path.{_≡_};
 ghost use Rattle.registers.specs.Map.{registerAt};
 
-// The registers, by 001's names. An offload register has its place in its memory, 0 to 15.
+// The registers, by 001's names. An offload register has its place in its memory, 0 to 15; a watermark the number of its
+// queue, 0 to 4 (`watermark.keeps`).
 pub enum Register {
     Version,
     Id,
@@ -26,6 +27,7 @@ pub enum Register {
     Ops,
     IbiConfig,
     DevChar,
+    Watermark(u32),
     OffloadCmd(u32),
     OffloadSdo(u32),
     // Any other offset.
@@ -58,6 +60,11 @@ pub fn register_at(offset: u16) -> Register
         0x100 => Register::Ops,
         0x140 => Register::IbiConfig,
         0x180 => Register::DevChar,
+        0x200 => Register::Watermark(0),
+        0x204 => Register::Watermark(1),
+        0x208 => Register::Watermark(2),
+        0x20c => Register::Watermark(3),
+        0x210 => Register::Watermark(4),
         0x2c0..=0x2fc => {
             if offset % 4 == 0 {
                 Register::OffloadCmd(((offset - 0x2c0) / 4) as u32)

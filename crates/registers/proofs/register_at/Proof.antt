@@ -97,31 +97,51 @@ returns-21 c = sym (ap registerAt (c .match .keys21))
 
 returns-22 : tie.Need-returns-22
 unfolding named entryAt
-returns-22 c = laws.command-at _ (c .before .before .before .match .rest) (c .before .before .if1 .left) (c .before .if2 .taken) (c .if3 .taken)
+returns-22 c = sym (ap registerAt (c .match .keys22))
 
 returns-23 : tie.Need-returns-23
 unfolding named entryAt
-returns-23 c = laws.nothing-odd-command _ (c .before .before .before .match .rest) (c .before .before .if1 .left) (c .before .if2 .taken) (c .if3 .left)
+returns-23 c = sym (ap registerAt (c .match .keys23))
 
 returns-24 : tie.Need-returns-24
 unfolding named entryAt
-returns-24 c = laws.word-at _ (c .before .before .before .before .before .match .rest) (c .before .before .if4 .left) (c .before .if5 .taken) (c .if6 .taken)
+returns-24 c = sym (ap registerAt (c .match .keys24))
 
 returns-25 : tie.Need-returns-25
 unfolding named entryAt
-returns-25 c = laws.nothing-odd-word _ (c .before .before .before .before .before .match .rest) (c .before .before .if4 .left) (c .before .if5 .taken) (c .if6 .left)
+returns-25 c = sym (ap registerAt (c .match .keys25))
 
 returns-26 : tie.Need-returns-26
 unfolding named entryAt
-returns-26 c = laws.nothing-below _ (c .before .match .rest) (c .if1 .taken)
+returns-26 c = sym (ap registerAt (c .match .keys26))
 
 returns-27 : tie.Need-returns-27
 unfolding named entryAt
-returns-27 c = laws.nothing-between _ (c .before .before .before .match .rest) (c .before .if2 .left) (c .if4 .taken)
+returns-27 c = laws.command-at _ (c .before .before .before .match .rest) (c .before .before .if1 .left) (c .before .if2 .taken) (c .if3 .taken)
 
 returns-28 : tie.Need-returns-28
 unfolding named entryAt
-returns-28 c = laws.nothing-above _ (c .before .before .before .before .match .rest) (c .if5 .left)
+returns-28 c = laws.nothing-odd-command _ (c .before .before .before .match .rest) (c .before .before .if1 .left) (c .before .if2 .taken) (c .if3 .left)
+
+returns-29 : tie.Need-returns-29
+unfolding named entryAt
+returns-29 c = laws.word-at _ (c .before .before .before .before .before .match .rest) (c .before .before .if4 .left) (c .before .if5 .taken) (c .if6 .taken)
+
+returns-30 : tie.Need-returns-30
+unfolding named entryAt
+returns-30 c = laws.nothing-odd-word _ (c .before .before .before .before .before .match .rest) (c .before .before .if4 .left) (c .before .if5 .taken) (c .if6 .left)
+
+returns-31 : tie.Need-returns-31
+unfolding named entryAt
+returns-31 c = laws.nothing-below _ (c .before .match .rest) (c .if1 .taken)
+
+returns-32 : tie.Need-returns-32
+unfolding named entryAt
+returns-32 c = laws.nothing-between _ (c .before .before .before .match .rest) (c .before .if2 .left) (c .if4 .taken)
+
+returns-33 : tie.Need-returns-33
+unfolding named entryAt
+returns-33 c = laws.nothing-above _ (c .before .before .before .before .match .rest) (c .if5 .left)
 
 pub register-at-spec : {M : Type 1} → statement M
 register-at-spec =
@@ -156,4 +176,9 @@ register-at-spec =
     returns-25
     returns-26
     returns-27
-    returns-28)
+    returns-28
+    returns-29
+    returns-30
+    returns-31
+    returns-32
+    returns-33)

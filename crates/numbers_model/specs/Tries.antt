@@ -88,7 +88,7 @@ abbrev pub tries : Call → List Try
 tries (Read o) = fresh (Read 0) ∷ illFormed (Read 0) ∷ wrongLength (Read 0) ∷ fresh (Read 0x00c) ∷ fresh (Read 0x0d8) ∷ []
 tries (Write o v) =
     fresh (Write 8 0) ∷ illFormed (Write 8 0) ∷ wrongLength (Write 8 0) ∷ fresh (Write 0x00c 0) ∷ after (opened 0x110) (Write 0x100 0)
-    ∷ fresh (Write 0 0) ∷ fresh (Write 0x0d4 0) ∷ after (four (Write 0x0d4 0)) (Write 0x0d4 0) ∷ []
+    ∷ fresh (Write 0x200 5) ∷ fresh (Write 0 0) ∷ fresh (Write 0x0d4 0) ∷ after (four (Write 0x0d4 0)) (Write 0x0d4 0) ∷ []
 tries Start =
     after (Write 0x0d4 0x110 ∷ []) Start ∷ illFormed Start ∷ wrongLength Start ∷ lacking Start ∷ fresh Start
     ∷ after writing Start ∷ after (Write 0x100 1 ∷ []) Start ∷ after [] Start ∷ after (Write 0x0dc 0 ∷ Write 0x0d4 0x400000 ∷ Write 0x0d4 7 ∷ []) Start ∷ []

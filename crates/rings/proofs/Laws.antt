@@ -11,7 +11,7 @@ use Rattle.ring.specs.Ring.{Valid}
 use Rattle.bank.specs.Queues.{Queues}
 use Rattle.bank.specs.Ready.{Ready}
 use Rattle.registers.specs.declared.Register.{Register}
-use Rattle.registers.specs.declared.Register.the-variants.{Version, Id, Scratch, Enable, IrqMask, IrqPending, IrqSource, CmdRoom, CmdrLevel, SdoRoom, SdiLevel, IbiLevel, CmdFifo, CmdrFifo, SdoFifo, SdiFifo, IbiFifo, FifoStatus, Ops, IbiConfig, DevChar, OffloadCmd, OffloadSdo, Unmapped}
+use Rattle.registers.specs.declared.Register.the-variants.{Version, Id, Scratch, Enable, IrqMask, IrqPending, IrqSource, CmdRoom, CmdrLevel, SdoRoom, SdiLevel, IbiLevel, CmdFifo, CmdrFifo, SdoFifo, SdiFifo, IbiFifo, FifoStatus, Ops, IbiConfig, DevChar, Watermark, OffloadCmd, OffloadSdo, Unmapped}
 use Rattle.registers.proofs.Register.{the-type}
 use Rattle.model.specs.View.{Queue, of}
 use Rattle.model.specs.Registers.{row}
@@ -37,7 +37,7 @@ module _ (q : Queues) (s : List ℕ) (f : Ready q s) where
 -- ── A read of any register but the three that take ────────────────────────────────────────────────────────────
 -- the others, by their places among the variants, as a `match` names them
 abbrev others : List ℕ
-others = 0 ∷ 1 ∷ 2 ∷ 3 ∷ 4 ∷ 5 ∷ 6 ∷ 7 ∷ 8 ∷ 9 ∷ 10 ∷ 11 ∷ 12 ∷ 14 ∷ 17 ∷ 18 ∷ 19 ∷ 20 ∷ 21 ∷ 22 ∷ 23 ∷ []
+others = 0 ∷ 1 ∷ 2 ∷ 3 ∷ 4 ∷ 5 ∷ 6 ∷ 7 ∷ 8 ∷ 9 ∷ 10 ∷ 11 ∷ 12 ∷ 14 ∷ 17 ∷ 18 ∷ 19 ∷ 20 ∷ 21 ∷ 22 ∷ 23 ∷ 24 ∷ []
 
 pub takes-none : (r : Register) (f : Fronts) → OneOf others (tagOf the-type r) → 0 ≡ takenBy (row r) f
 takes-none Version f h = refl
@@ -61,6 +61,7 @@ takes-none FifoStatus f h = refl
 takes-none Ops f h = refl
 takes-none IbiConfig f h = refl
 takes-none DevChar f h = refl
+takes-none (Watermark i) f h = refl
 takes-none (OffloadCmd i) f h = refl
 takes-none (OffloadSdo i) f h = refl
 takes-none Unmapped f h = refl

@@ -2,7 +2,7 @@
 use native.Mathlib.Omega.{arith}
 use mathlib.Core.Path.{refl, _∙_}
 use borrow.Author.Needs.{needs}
-use Rattle.registers.specs.declared.Register.the-variants.{Version, Id, Scratch, Enable, IrqMask, IrqPending, IrqSource, CmdRoom, CmdrLevel, SdoRoom, SdiLevel, IbiLevel, CmdFifo, SdoFifo, FifoStatus, Ops, IbiConfig, DevChar, OffloadCmd, OffloadSdo, Unmapped}
+use Rattle.registers.specs.declared.Register.the-variants.{Version, Id, Scratch, Enable, IrqMask, IrqPending, IrqSource, CmdRoom, CmdrLevel, SdoRoom, SdiLevel, IbiLevel, CmdFifo, SdoFifo, FifoStatus, Ops, IbiConfig, DevChar, Watermark, OffloadCmd, OffloadSdo, Unmapped}
 use Rattle.model.specs.Registers.{row, read}
 use Rattle.effect.proofs.Laws.{refused-as, noTables, noFronts}
 use Rattle.read.proofs.Rows.{shown-row}
@@ -183,11 +183,20 @@ show-requires-19 c κs = search needs
 enum-known-r-2 : tie.Need-enum-known-r-2
 enum-known-r-2 c = search needs
 
+enum-known-r-3 : tie.Need-enum-known-r-3
+enum-known-r-3 c = search needs
+
+count-at-requires : tie.Need-count-at-requires
+count-at-requires c κs = search needs
+
 offload-word-requires-2 : tie.Need-offload-word-requires-2
 offload-word-requires-2 c κs = search needs
 
 show-requires-20 : tie.Need-show-requires-20
 show-requires-20 c κs = search needs
+
+show-requires-21 : tie.Need-show-requires-21
+show-requires-21 c κs = search needs
 
 enum-told-22 : tie.Need-enum-told-22
 enum-told-22 c = search needs
@@ -259,13 +268,16 @@ returns-21 : tie.Need-returns-21
 returns-21 c = λ o f. rw (c .before .before .before .before .enum-told21 .given .1) (λ w. c .show18 .ensures _ f ∙ shown-row DevChar _ (c .before .device-word .ensures ∙ rw (c .before .before .flags-at .ensures)) refl)
 
 returns-22 : tie.Need-returns-22
-returns-22 c = λ o f. rw (c .before .before .before .before .r .given .1) (λ w. c .show19 .ensures _ f ∙ shown-row (OffloadCmd _) _ (c .before .offload-word .ensures) refl)
+returns-22 c = λ o f. rw (c .before .before .before .r .given .1) (λ w. c .show19 .ensures _ f ∙ shown-row (Watermark (c .before .before .before .r .given .0 .0)) _ (c .before .count-at .ensures) refl)
 
 returns-23 : tie.Need-returns-23
-returns-23 c = λ o f. rw (c .before .before .before .before .r2 .given .1) (λ w. c .show20 .ensures _ f ∙ shown-row (OffloadSdo _) _ (c .before .offload-word2 .ensures) refl)
+returns-23 c = λ o f. rw (c .before .before .before .before .r2 .given .1) (λ w. c .show20 .ensures _ f ∙ shown-row (OffloadCmd _) _ (c .before .offload-word .ensures) refl)
 
 returns-24 : tie.Need-returns-24
-returns-24 c = λ o f. rw (c .before .enum-told22 .given .1) (λ w. c .refuse .ensures _ f ∙ refused-as (read (row Unmapped)) _ 4 (λ z. omega arith) refl)
+returns-24 c = λ o f. rw (c .before .before .before .before .r3 .given .1) (λ w. c .show21 .ensures _ f ∙ shown-row (OffloadSdo _) _ (c .before .offload-word2 .ensures) refl)
+
+returns-25 : tie.Need-returns-25
+returns-25 c = λ o f. rw (c .before .enum-told22 .given .1) (λ w. c .refuse .ensures _ f ∙ refused-as (read (row Unmapped)) _ 4 (λ z. omega arith) refl)
 
 pub read-spec : {M : Type 1} → statement M
 read-spec =
@@ -326,11 +338,14 @@ read-spec =
     device-word-requires
     show-requires-18
     enum-known-r
-    offload-word-requires
+    count-at-requires
     show-requires-19
     enum-known-r-2
-    offload-word-requires-2
+    offload-word-requires
     show-requires-20
+    enum-known-r-3
+    offload-word-requires-2
+    show-requires-21
     enum-told-22
     refuse-requires
     returns
@@ -356,4 +371,5 @@ read-spec =
     returns-21
     returns-22
     returns-23
-    returns-24)
+    returns-24
+    returns-25)

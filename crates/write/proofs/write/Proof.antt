@@ -138,11 +138,17 @@ write-device-requires c κs = search needs
 enum-known-r : tie.Need-enum-known-r
 enum-known-r c = search needs
 
+write-watermark-requires : tie.Need-write-watermark-requires
+write-watermark-requires c κs = search needs
+
 write-offload-cmd-requires : tie.Need-write-offload-cmd-requires
 write-offload-cmd-requires c κs = search needs
 
 enum-known-r-2 : tie.Need-enum-known-r-2
 enum-known-r-2 c = search needs
+
+enum-known-r-3 : tie.Need-enum-known-r-3
+enum-known-r-3 c = search needs
 
 write-offload-sdo-requires : tie.Need-write-offload-sdo-requires
 write-offload-sdo-requires c κs = search needs
@@ -217,13 +223,16 @@ returns-21 : tie.Need-returns-21
 returns-21 c = λ t f. rw (c .before .enum-told21 .given .1) (c .write-device .ensures t f)
 
 returns-22 : tie.Need-returns-22
-returns-22 c = λ t f. rw (c .before .before .r .given .1) (c .write-offload-cmd .ensures t f)
+returns-22 c = λ t f. rw (c .before .before .r .given .1) (c .write-watermark .ensures t f)
 
 returns-23 : tie.Need-returns-23
-returns-23 c = λ t f. rw (c .before .before .r2 .given .1) (c .write-offload-sdo .ensures t f)
+returns-23 c = λ t f. rw (c .before .before .r2 .given .1) (c .write-offload-cmd .ensures t f)
 
 returns-24 : tie.Need-returns-24
-returns-24 c = λ t f. rw (c .before .enum-told22 .given .1) (c .refuse13 .ensures t f ∙ refused-as (λ v. write (row Unmapped) v (c .before .before .before .args .x)) _ 4 (λ z. omega arith) refl)
+returns-24 c = λ t f. rw (c .before .before .r3 .given .1) (c .write-offload-sdo .ensures t f)
+
+returns-25 : tie.Need-returns-25
+returns-25 c = λ t f. rw (c .before .enum-told22 .given .1) (c .refuse13 .ensures t f ∙ refused-as (λ v. write (row Unmapped) v (c .before .before .before .args .x)) _ 4 (λ z. omega arith) refl)
 
 pub write-spec : {M : Type 1} → statement M
 write-spec =
@@ -272,8 +281,10 @@ write-spec =
     enum-told-21
     write-device-requires
     enum-known-r
-    write-offload-cmd-requires
+    write-watermark-requires
     enum-known-r-2
+    write-offload-cmd-requires
+    enum-known-r-3
     write-offload-sdo-requires
     enum-told-22
     refuse-requires-13
@@ -300,4 +311,5 @@ write-spec =
     returns-21
     returns-22
     returns-23
-    returns-24)
+    returns-24
+    returns-25)

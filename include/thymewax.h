@@ -19,8 +19,9 @@
  *
  * What holds of every call:
  * - It takes any numbers and any contents of lent memory, and ends with a number.
- * - A number other than THYMEWAX_DONE and THYMEWAX_WRONG_PARITY is a refusal: the
- *   value is 0, and no word of lent memory has changed. (A replay that ends with
+ * - A number other than THYMEWAX_DONE and THYMEWAX_WRONG_PARITY is a refusal: no
+ *   word of lent memory has changed, and the value is 0, but with THYMEWAX_EMPTY
+ *   the word last read from that queue. (A replay that ends with
  *   THYMEWAX_WRONG_RECORD leaves what the records before left, and tells it.)
  * - Memory is lent as a pointer and a count, for the time of the call. The count
  *   must be true, and no two lent pieces may overlap. A count of 0 may go with a
@@ -35,10 +36,10 @@
 #include <stdint.h>
 
 /* The version of layout and calls: what thymewax_version() gives. */
-#define THYMEWAX_VERSION 1
+#define THYMEWAX_VERSION 2
 
 /* The words of an image: what thymewax_image_words() gives. */
-#define THYMEWAX_IMAGE_WORDS 40
+#define THYMEWAX_IMAGE_WORDS 43
 
 /* The tables: flag bytes, one for each device address; words of the offload
  * commands, and as many of their data. */
@@ -402,7 +403,9 @@ static inline struct thymewax_answer thymewax_model_step(struct thymewax *m,
  * above 65535, or a byte, an address or a code above 255, is answered 27. */
 
 /* The host reads a register. The value is what the register shows; a read of
- * CMDR, SDI or IBI takes the first word of the queue. */
+ * CMDR, SDI or IBI takes the first word of the queue. An empty one is answered
+ * THYMEWAX_EMPTY, with the word last read from it since the release as the value,
+ * 0 if there was none. */
 static inline struct thymewax_answer thymewax_read(struct thymewax *m, uint32_t offset)
 {
     return thymewax_model_step(m, THYMEWAX_LETTER_READ, offset, 0, 0);

@@ -3,7 +3,7 @@
 use crate::pair::{Pair, SET_UPS};
 use crate::plain::call::Call;
 use crate::plain::transfer::{Kind, Phase, Requests, Transfer};
-use crate::plain::{offset, Answer, Bank};
+use crate::plain::{offset, Answer, Bank, Latest};
 use crate::trace;
 
 const CALLS_A_LIST: usize = 150_000;
@@ -169,6 +169,9 @@ fn a_bank_that_is_not_well_formed_is_21() {
         held(|b| b.sync = 1),
         held(|b| b.ibi_sync = 1),
         held(|b| b.pending = 32),
+        held(|b| b.latest.cmdr = 1),
+        held(|b| b.latest.sdi = 1 << 31),
+        held(|b| b.latest.ibi = u32::MAX),
         held(|b| b.phase = Phase::Assigning(Requests::None)),
         Bank::new([0; 5], [0; 5], 0),
         Bank::new([4, 4, 4, 4, 1025], [0; 5], 0),
@@ -189,6 +192,27 @@ fn a_bank_with_an_open_transfer_is_well_formed() {
             offset: offset::OPS,
         };
         assert_eq!(bank.step(&mut [0; 20], read).number, 0);
+    }
+}
+
+#[test]
+fn a_released_bank_may_have_read_any_word() {
+    let latest = Latest {
+        cmdr: 1,
+        sdi: 1 << 31,
+        ibi: u32::MAX,
+    };
+    for (offset, value) in [
+        (offset::CMDR, latest.cmdr),
+        (offset::SDI, latest.sdi),
+        (offset::IBI, latest.ibi),
+    ] {
+        let mut bank = released();
+        bank.latest = latest;
+        let before = bank.clone();
+        let answer = bank.step(&mut [0; 20], Call::Read { offset });
+        assert_eq!(answer, Answer { value, number: 3 });
+        assert_eq!(bank, before);
     }
 }
 

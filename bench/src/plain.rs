@@ -27,6 +27,12 @@ fn refuse(number: u32) -> Answer {
     Answer { value: 0, number }
 }
 
+/// An empty queue shows the word last read from it (02 §5).
+fn empty(value: u32) -> Answer {
+    let number = EMPTY;
+    Answer { value, number }
+}
+
 // 01's numbers.
 const FULL: u32 = 1;
 const READ_ONLY: u32 = 2;
@@ -66,6 +72,14 @@ const OFFLOAD: u8 = 1;
 const ACKNOWLEDGE: u8 = 1;
 const LISTEN: u8 = 2;
 
+/// The words last read from the queues that the driver reads, since the release.
+#[derive(Clone, Copy, Debug, Default, PartialEq, Eq)]
+pub struct Latest {
+    pub cmdr: u32,
+    pub sdi: u32,
+    pub ibi: u32,
+}
+
 /// The state of one controller but for its words, which lie in the store.
 #[derive(Clone, Debug, PartialEq, Eq)]
 pub struct Bank {
@@ -85,6 +99,7 @@ pub struct Bank {
     pub sync: u8,
     pub ibi_sync: u8,
     pub pending: u8,
+    pub latest: Latest,
     pub flags: [u8; 128],
     pub commands: [u32; 16],
     pub payloads: [u32; 16],
@@ -112,6 +127,7 @@ impl Bank {
             sync: 0,
             ibi_sync: 0,
             pending: 0,
+            latest: Latest::default(),
             flags: [0; 128],
             commands: [0; 16],
             payloads: [0; 16],
@@ -168,7 +184,10 @@ impl Bank {
     fn is_cleared(&self) -> bool {
         let rings = [&self.cmd, &self.cmdr, &self.sdo, &self.sdi, &self.ibi];
         let numbers = rings.iter().fold(0, |all, r| all | r.head | r.level);
-        numbers == 0 && self.sync | self.ibi_sync | self.pending == 0 && self.phase.is_idle()
+        numbers == 0
+            && self.sync | self.ibi_sync | self.pending == 0
+            && self.latest == Latest::default()
+            && self.phase.is_idle()
     }
 
     fn store_len(&self) -> usize {
@@ -245,9 +264,10 @@ impl Bank {
 
     fn read_cmdr(&mut self, store: &[u32]) -> Answer {
         if self.cmdr.is_empty() {
-            return refuse(EMPTY);
+            return empty(self.latest.cmdr);
         }
         let word = self.cmdr.take(store, self.cmd.cap);
+        self.latest.cmdr = word;
         if self.cmdr.is_empty() {
             self.pending &= !RECEIPT;
         }
@@ -256,18 +276,21 @@ impl Bank {
 
     fn read_sdi(&mut self, store: &[u32]) -> Answer {
         if self.sdi.is_empty() {
-            return refuse(EMPTY);
+            return empty(self.latest.sdi);
         }
         let base = self.sdi_at();
-        done(self.sdi.take(store, base))
+        let word = self.sdi.take(store, base);
+        self.latest.sdi = word;
+        done(word)
     }
 
     fn read_ibi(&mut self, store: &[u32]) -> Answer {
         if self.ibi.is_empty() {
-            return refuse(EMPTY);
+            return empty(self.latest.ibi);
         }
         let base = self.ibi_at();
         let word = self.ibi.take(store, base);
+        self.latest.ibi = word;
         if self.ibi.is_empty() {
             self.pending &= !INTERRUPT;
         }
@@ -320,6 +343,7 @@ impl Bank {
             self.sync = 0;
             self.ibi_sync = 0;
             self.pending = 0;
+            self.latest = Latest::default();
         }
     }
 

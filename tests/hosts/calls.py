@@ -30,7 +30,7 @@ T                  000000a5 00
 T                  000000c3 00
 F 0                00000200 00
 R 00d8             00000200 00
-R 00d8             00000000 03
+R 00d8             00000200 03
 '''
 # A number of each kind of set-up that is out of range, by name.
 OUT_OF_RANGE = [
@@ -39,6 +39,8 @@ OUT_OF_RANGE = [
     *((name, number) for name in SetUp._fields[5:10] for number in (5, WORD)),
     ('id', 256), ('id', WORD),
 ]
+# The registers whose reads take a word, and their queues.
+TAKES = {Register.CMDR_FIFO: 'cmdr', Register.SDI_FIFO: 'sdi', Register.IBI_FIFO: 'ibi'}
 THREADS, WRITES = 16, 200
 
 
@@ -229,21 +231,54 @@ def shown_levels(model):
     return sizes[0] - cmd, cmdr, sizes[2] - sdo, sdi, ibi
 
 
+def empty_reads():
+    """A queue that is read empty shows the word last read from it, as often as it is read; a reset
+    forgets it."""
+    model = Model.set_up()
+
+    def shown(name, *words):
+        before = memory(model)
+        for offset, word in zip(TAKES, words):
+            for _ in range(2):
+                equal('empty reads', '%s, %x' % (name, offset), model.read(offset), Answer(word, Number.EMPTY))
+        equal('empty reads', name, memory(model), before)
+
+    shown('fresh', 0, 0, 0)
+    for answer in (
+            model.write(Register.ENABLE, 0),
+            model.write(Register.DEV_CHAR, Device(8, True, True, True).word),
+            model.write(Register.IBI_CONFIG, 3), model.interrupt(8, 0x5a),
+            model.write(Register.CMD_FIFO, Command(8, 2, read=True).word), model.start(),
+            model.receive(0x12), model.receive(0x34), model.finish(0)):
+        answer.done()
+    words = [model.read(offset).done().value for offset in TAKES]
+    equal('empty reads', 'words', words, [0x00000200, 0x12340000, 0x00105a00])
+    shown('all read', *words)
+    for enable, name in ((1, 'reset'), (0, 'released')):
+        model.write(Register.ENABLE, enable).done()
+        shown(name, 0, 0, 0)
+
+
 def images():
-    """The image by names is what the registers show; a refused call changes no word; the first word
-    of a queue is the next that a read takes."""
-    takes = {Register.CMDR_FIFO: 'cmdr', Register.SDI_FIFO: 'sdi', Register.IBI_FIFO: 'ibi'}
+    """The image by names is what the registers show; a refused call changes no word, and has a value
+    only of an empty queue, the word last read from it; the first word of a queue is the next that a
+    read takes."""
     for seed in (1, 2):
-        model = Model.set_up()
+        model, latest = Model.set_up(), dict.fromkeys(TAKES, 0)
         for call in session.calls(generated(seed, 6000)):
             before = memory(model)
-            first = {name: before[0].queue(name, before[1])[:1] for name in takes.values()}
+            first = {name: before[0].queue(name, before[1])[:1] for name in TAKES.values()}
             answer = model.make(call)
             image = model.image()
             if answer.refused:
-                equal('refused calls', call, (answer.value, memory(model)), (0, before))
-            elif call.letter == 'R' and call.offset in takes:
-                equal('words taken', call, first[takes[call.offset]], (answer.value,))
+                value = latest[call.offset] if answer.number == Number.EMPTY else 0
+                equal('refused calls', call, (answer.value, memory(model)), (value, before))
+            elif call.letter == 'R' and call.offset in TAKES:
+                equal('words taken', call, first[TAKES[call.offset]], (answer.value,))
+                latest[call.offset] = answer.value
+            if image.held:
+                latest = dict.fromkeys(TAKES, 0)
+            equal('images', 'last read after %s' % (call,), image.latest, tuple(latest.values()))
             equal('images', 'levels after %s' % (call,), image.levels, shown_levels(model))
             equal('images', 'source after %s' % (call,), model.source(),
                   source_of(image, image.levels))
@@ -351,5 +386,5 @@ def threads():
 
 
 if __name__ == '__main__':
-    main('calls', [worked_session, every_call, truth, bursts, set_ups, ranges, no_calls, images,
-                   tables, goes_on, copies, copies_in_calls, threads])
+    main('calls', [worked_session, every_call, empty_reads, truth, bursts, set_ups, ranges, no_calls,
+                   images, tables, goes_on, copies, copies_in_calls, threads])

@@ -12,7 +12,7 @@ import sys
 sys.path.insert(0, str(pathlib.Path(__file__).resolve().parents[2]))
 
 from tests.hosts.image_words import (
-    CAPACITY, COMMANDS, DATA, HEAD, INTERRUPT_SYNC, LARGEST, LENGTH, LEVEL, MOST, MOVED, NAMES,
+    CAPACITY, COMMANDS, DATA, HEAD, INTERRUPT_SYNC, LARGEST, LATEST, LENGTH, LEVEL, MOST, MOVED, NAMES,
     PART, PENDING_5, PENDING_6, PENDING_7, PHASE, PLACE, QUEUES, RECEIPT_SYNC, SCRATCH, WATERMARK)
 from tests.hosts.lent import kept, row_of, words
 from tests.scripts.bank import BURST_LENGTH, CMD, LONGEST, MOST_CAPACITY, SDI
@@ -36,8 +36,10 @@ TOO_LARGE = {
     **{place: most + 1 for place, most in LARGEST.items()},
     PLACE: BURST_LENGTH + 2, LENGTH: LONGEST + 1,
 }
-# Words that may hold any number.
-FREE = {SCRATCH, *COMMANDS, *DATA}
+# Words that may hold any number, those last read where the bank is released.
+FREE = {SCRATCH, *LATEST.values(), *COMMANDS, *DATA}
+# What a library of version 1 had as an image.
+OLD_IMAGE_WORDS = 40
 RANDOM_DAMAGES = 20000
 
 
@@ -89,14 +91,32 @@ def damaged():
         small = with_word(image, queue + CAPACITY, 1)
         refuses('least capacity', with_word(small, queue + LEVEL, 0), store)
     for place in (QUEUES[CMD] + HEAD, QUEUES[CMD] + LEVEL, RECEIPT_SYNC, INTERRUPT_SYNC, PENDING_5,
-                  PENDING_6, PENDING_7, PHASE):
-        refuses('%s in reset' % NAMES[place], with_word(fresh, place, 1), [0] * 20)
+                  PENDING_6, PENDING_7, *LATEST.values(), PHASE):
+        for word in (1, MOST):
+            refuses('%s is %x in reset' % (NAMES[place], word), with_word(fresh, place, word), [0] * 20)
     for place, word in ((PLACE, 1), (PHASE, Phase.IDLE), (PHASE, Phase.ASSIGNING), (LENGTH, 4),
                         (MOVED, 7), (MOVED, 0x100), (PART, MOST)):
         refuses('open transfer, %s is %x' % (NAMES[place], word), with_word(image, place, word),
                 store)
     for length in (0, 1, WORDS - 1, WORDS + 1, 2 * WORDS):
         refuses('%d words' % length, (list(image) * 2)[:length], store)
+    old = [word for place, word in enumerate(image) if place not in LATEST.values()]
+    equal('damaged images', 'words of an old one', len(old) - TABLES, OLD_IMAGE_WORDS)
+    refuses('an image of version 1', old, store)
+
+
+def any_word_last_read():
+    """Released, the words last read may be any: an empty queue shows its own."""
+    model = Model.set_up()
+    model.write(Register.ENABLE, 0)
+    for offset, place in LATEST.items():
+        for word in (0, 1, 0x80000000, MOST):
+            other = Model(with_word(model.image(), place, word), model.store())
+            before = state(other)
+            for shown in LATEST:
+                equal('any word last read', (offset, word), other.read(shown),
+                      Answer(word if shown == offset else 0, Number.EMPTY))
+            equal('any word last read', (offset, word), state(other), before)
 
 
 def damaged_at_random():
@@ -153,7 +173,7 @@ def raw_set_up():
     library, numbers = load(), list(SetUp())
     equal('raw set-up', 'version', library.thymewax_version(), VERSION)
     equal('raw set-up', 'image words', library.thymewax_image_words(), IMAGE_WORDS)
-    for length in (0, 1, IMAGE_WORDS - 1, IMAGE_WORDS, IMAGE_WORDS + 1, WORDS):
+    for length in (0, 1, OLD_IMAGE_WORDS, IMAGE_WORDS - 1, IMAGE_WORDS, IMAGE_WORDS + 1, WORDS):
         pieces = kept(counted(length))
         number = library.thymewax_set_up(*pieces, *numbers)
         right = length == IMAGE_WORDS
@@ -235,9 +255,10 @@ def refused_in_scripts():
         answer = model.make(call)
         equal('scripts', call, answer.number in BEFORE_ALL, False)
         if answer.refused:
-            equal('scripts', call, (answer.value, state(model)), (0, before))
+            value = before[0][LATEST[call.offset]] if answer.number == Number.EMPTY else 0
+            equal('scripts', call, (answer.value, state(model)), (value, before))
 
 
 if __name__ == '__main__':
-    main('damage', [damaged, damaged_at_random, other_stores, raw_set_up, raw_lengths, raw_refusals,
-                    refused_in_scripts])
+    main('damage', [damaged, any_word_last_read, damaged_at_random, other_stores, raw_set_up, raw_lengths,
+                    raw_refusals, refused_in_scripts])

@@ -21,7 +21,7 @@ from tests.hosts.formed_damages import KINDS, single
 from tests.hosts.formed_images import (SEEDS, SET_UPS, WANTED, filled, in_bursts, opened, scripted,
                                        traits)
 from tests.hosts.image_words import (CAPACITY, COMMANDS, ENABLE, FIELDS, FREE, ID, MOST, NAMES,
-                                      OPS, PLACE, TRANSFER)
+                                      OPS, PLACE, REFERENCE_ORDER, TRANSFER)
 from tests.hosts.lent import kept, put, row_of, words
 from tests.shared.trial import TRIED, Wrong, equal, main, run
 from thymewax import Number, Register
@@ -40,7 +40,7 @@ def chosen(reference):
     for walk in (*map(filled, SET_UPS), opened(), in_bursts(), *map(scripted, SEEDS)):
         texts = []
         for image in walk:
-            texts.append(' '.join(map('{:x}'.format, image)))
+            texts.append(line_of(list(map('{:x}'.format, image))))
             new = set(traits(image)) - met
             if new:
                 met |= new
@@ -51,6 +51,11 @@ def chosen(reference):
     equal('kinds of images', 'not met: %s' % sorted(map(str, missing)), len(missing), 0)
     TRIED['kinds of images'] = len(met)
     return images
+
+
+def line_of(digits):
+    """The line of an image to the second program."""
+    return ' '.join([digits[place] for place in REFERENCE_ORDER])
 
 
 def judged(reference, texts):
@@ -76,7 +81,7 @@ def answered(image, damages):
             text[place] = '%x' % number
         length = min(sum(pieces[0][CAPACITY:ID:4]), MOST_STORE)
         answers.append(step(*pieces, store, length, None, 0, ord('R'), Register.VERSION, 0, 0))
-        texts.append(' '.join(text))
+        texts.append(line_of(text))
         for place, _ in damage:
             put(pieces, place, image[place])
     if tuple(row_of(pieces)) != image:

@@ -104,6 +104,7 @@ def traits(image):
     yield 'kind', transfer.phase, transfer.kind, transfer.attached
     yield 'header', transfer.phase, place > 0, transfer.header
     yield 'burst', place, transfer.phase
+    yield 'last read', *map(bool, image.latest)
 
 
 PAYLOAD = (Phase.WRITING, Phase.READING)
@@ -119,6 +120,7 @@ WANTED = {
       for header in (False, True)),
     *(('burst', place + 1, phase) for place in range(BURST_LENGTH) for phase in PAYLOAD),
     ('burst', 0, Phase.IDLE),
+    *(('last read', *words) for words in itertools.product((False, True), repeat=3)),
     *(('registers', held, True, True) for held in (False, True)),
     *(('capacities', numbers[:5]) for numbers in (SetUp(), *SET_UPS)),
 }

@@ -31,10 +31,10 @@ DAMAGES = (
     ('THYMEWAX_PUT(THYMEWAX_COMMAND_ADDRESS, address)', 'THYMEWAX_PUT(THYMEWAX_COMMAND_ADDRESS, length)'),
     ('address) | THYMEWAX_DEVICE_STORE', 'address)'),
     # version and lengths
-    ('IMAGE_WORDS 40', 'IMAGE_WORDS 41'),
+    ('IMAGE_WORDS 43', 'IMAGE_WORDS 44'),
     ('FLAG_BYTES 128', 'FLAG_BYTES 127'),
     ('OFFLOAD_WORDS 16', 'OFFLOAD_WORDS 15'),
-    ('_VERSION 1', '_VERSION 2'),
+    ('_VERSION 2', '_VERSION 3'),
     # inline functions
     ('capacities[0], capacities[1]', 'capacities[1], capacities[0]'),
     ('watermarks[3], watermarks[4]', 'watermarks[4], watermarks[3]'),

@@ -124,7 +124,19 @@ static void call(const char *what, struct thymewax_answer a, uint32_t letter, ui
     expect(what, a.value == (packed & 0xffffffffu) && a.number == packed >> 32);
     expect(what, a.number == number && same());
     expect(what, number == THYMEWAX_DONE || number == THYMEWAX_WRONG_PARITY
-                     || (a.value == 0 && unchanged()));
+                     || ((a.value == 0 || number == THYMEWAX_EMPTY) && unchanged()));
+}
+
+/* A queue is read to its end, and once more: that shows the last word again. */
+static void read_out(const char *what, uint32_t offset, uint32_t last)
+{
+    struct thymewax_answer a = thymewax_read(&m, offset);
+    while (a.number == THYMEWAX_DONE) {
+        call(what, a, THYMEWAX_LETTER_READ, offset, 0, 0, THYMEWAX_DONE);
+        a = thymewax_read(&m, offset);
+    }
+    call(what, a, THYMEWAX_LETTER_READ, offset, 0, 0, THYMEWAX_EMPTY);
+    expect(what, a.value == last);
 }
 
 static void is_told(const char *what, int done, uint32_t given, uint32_t told)
@@ -200,7 +212,11 @@ int main(void)
     expect("output", m.output == NULL && m.output_words == 0);
     m.output = m_output;
     m.output_words = 1;
+    read_out("nothing read of CMDR", THYMEWAX_REG_CMDR_FIFO, 0);
 CALLS
+    read_out("the end of CMDR", THYMEWAX_REG_CMDR_FIFO, 0x00000003);
+    read_out("the end of SDI", THYMEWAX_REG_SDI_FIFO, 0xef000102);
+    read_out("the end of IBI", THYMEWAX_REG_IBI_FIFO, 0x00105a00);
     replays();
     m.kept.image[0] = kept.image[0] = 5000;
     replays();

@@ -11,7 +11,7 @@ The shared library is opened with the first model; `python3 -m thymewax.build` m
 
 from .calls import Call
 from .formats import AddressWord, Ccc, Command, Device, Interrupt, Ops, Receipt
-from .image import Image, Kind, Levels, Phase, Ring, Rings, Transfer
+from .image import Image, Kind, Latest, Levels, Phase, Ring, Rings, Transfer
 from .library import LibraryMissing
 from .model import Model, Place, Replayed, SetUp, section, sections
 from .numbers import MEANINGS, Answer, Number, Refused
@@ -20,8 +20,8 @@ from .registers import (OFFLOAD_CMD, OFFLOAD_SDO, Code, Config, Irq, Register, S
 
 __all__ = [
     'AddressWord', 'Answer', 'Call', 'Ccc', 'Code', 'Command', 'Config', 'Device', 'Image',
-    'Interrupt', 'Irq', 'Kind', 'Levels', 'LibraryMissing', 'MEANINGS', 'Model', 'Number',
-    'OFFLOAD_CMD', 'OFFLOAD_SDO', 'Ops', 'Phase', 'Place', 'Receipt', 'Refused', 'Register',
-    'Replayed', 'Ring', 'Rings', 'SetUp', 'Speed', 'Status', 'Transfer', 'name_of', 'section',
-    'sections',
+    'Interrupt', 'Irq', 'Kind', 'Latest', 'Levels', 'LibraryMissing', 'MEANINGS', 'Model',
+    'Number', 'OFFLOAD_CMD', 'OFFLOAD_SDO', 'Ops', 'Phase', 'Place', 'Receipt', 'Refused',
+    'Register', 'Replayed', 'Ring', 'Rings', 'SetUp', 'Speed', 'Status', 'Transfer', 'name_of',
+    'section', 'sections',
 ]

@@ -14,7 +14,7 @@ from .formats import Device
 from .registers import Irq
 
 # Words of the image that the archive takes; flags, commands and payloads follow.
-IMAGE_WORDS = 40
+IMAGE_WORDS = 43
 FLAGS = 128
 OFFLOAD_WORDS = 16
 TABLES = FLAGS + 2 * OFFLOAD_WORDS
@@ -44,18 +44,22 @@ class ImageWord(IntEnum):
     IBIPENDING = 30
     DAAPENDING = 31
     BURST = 32
-    STAGE = 33
-    KIND = 34
-    HEADER = 35
-    LENGTH = 36
-    MOVED = 37
-    ATTACHED = 38
-    PART = 39
+    CMDRLATEST = 33
+    SDILATEST = 34
+    IBILATEST = 35
+    STAGE = 36
+    KIND = 37
+    HEADER = 38
+    LENGTH = 39
+    MOVED = 40
+    ATTACHED = 41
+    PART = 42
 
 
 # Levels, the mask, whether it is held, pending bits, the burst, the transfer but its part word.
 _MOVING = operator.itemgetter(*range(ImageWord.LEVELS, ImageWord.ID, _RING_WORDS), ImageWord.MASK, ImageWord.HELD,
-                              *range(ImageWord.CMDRPENDING, ImageWord.PART))
+                              *range(ImageWord.CMDRPENDING, ImageWord.CMDRLATEST),
+                              *range(ImageWord.STAGE, ImageWord.PART))
 
 
 class Phase(IntEnum):
@@ -100,6 +104,15 @@ class Levels(NamedTuple):
     cmd: int
     cmdr: int
     sdo: int
+    sdi: int
+    ibi: int
+
+
+class Latest(NamedTuple):
+    """The words last read from the queues that the driver reads, since the release; 0 where none
+    was. An empty queue shows its own."""
+
+    cmdr: int
     sdi: int
     ibi: int
 
@@ -189,6 +202,10 @@ class Image(tuple[int, ...]):
         """The place of the open burst's command at hand; None where no burst is open."""
         place = self[ImageWord.BURST]
         return place - 1 if place else None
+
+    @property
+    def latest(self) -> Latest:
+        return Latest(*self[ImageWord.CMDRLATEST:ImageWord.STAGE])
 
     @property
     def transfer(self) -> Transfer:

@@ -10,7 +10,7 @@ import subprocess
 
 ARCHIVE = 'libthymewax.a'
 # Of layout and calls: the archive and the header have the same.
-VERSION = 1
+VERSION = 2
 LIBRARY = 'libthymewax_python.so'
 # A folder that has both, in place of the repository's target/staticlib.
 FOLDER_VARIABLE = 'THYMEWAX_LIB_DIR'

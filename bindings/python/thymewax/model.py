@@ -144,7 +144,8 @@ class Model:
         return self.step('W', offset, value)
 
     def read(self, offset: int) -> Answer:
-        """The host reads a register."""
+        """The host reads a register. CMDR, SDI or IBI gives its first word; an empty one is answered
+        3, with the word last read from it since the release, 0 if there was none."""
         return self.step('R', offset)
 
     def start(self) -> Answer:

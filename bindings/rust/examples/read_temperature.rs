@@ -68,7 +68,7 @@ pub fn report() -> Result<String, Refusal> {
     let steps = model.read(registers::SDI_FIFO).done()? >> 16;
     say(format!("temperature {:.1}", f64::from(steps) / 256.0));
 
-    // A read of an empty queue has an answer too.
+    // A read of an empty queue has an answer too: the word before, and a number that tells.
     say(format!("once more: {}", model.read(registers::SDI_FIFO)));
     Ok(text)
 }

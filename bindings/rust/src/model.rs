@@ -4,7 +4,7 @@ use crate::raw::{self, Tables};
 use crate::{Answer, Call, Number, Refusal, Replayed, SetUp};
 
 /// The version of layout and calls that this crate is written for.
-pub const VERSION: u32 = 1;
+pub const VERSION: u32 = 2;
 
 /// The version that the archive tells. [`VERSION`], unless another one is linked.
 pub fn version() -> u32 {
@@ -12,7 +12,7 @@ pub fn version() -> u32 {
 }
 
 /// How many words the image of a model has.
-pub const IMAGE_WORDS: usize = 40;
+pub const IMAGE_WORDS: usize = 43;
 
 /// How many words the archive says that an image has. [`IMAGE_WORDS`], unless the archive is of
 /// another version; set-ups are then refused with [`Number::NOT_WELL_FORMED`].
@@ -169,6 +169,9 @@ impl Model {
     }
 
     /// The host reads a register; the value is what it shows.
+    ///
+    /// A read of CMDR, SDI or IBI takes the first word of the queue. An empty one shows the word last
+    /// read from it since the release, 0 if there was none, with [`Number::EMPTY`].
     pub fn read(&mut self, offset: u16) -> Answer {
         self.step(Call::Read { offset })
     }

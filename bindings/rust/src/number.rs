@@ -5,7 +5,8 @@ use std::fmt;
 /// What happened: the number of an answer.
 ///
 /// Any number of a call but [`DONE`](Number::DONE) and [`WRONG_PARITY`](Number::WRONG_PARITY) is a
-/// refusal: the call changed nothing and has the value 0.
+/// refusal: the call changed nothing and has the value 0, but with [`EMPTY`](Number::EMPTY) that of
+/// [`Model::read`](crate::Model::read).
 ///
 /// ```
 /// use thymewax::Number;

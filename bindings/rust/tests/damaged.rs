@@ -142,9 +142,9 @@ fn several_words_damaged() {
             let place = match lcg.below(8) {
                 0 => lcg.below(20),
                 1 => 20 + lcg.below(6),
-                2 => 168 + lcg.below(4),
+                2 => 171 + lcg.below(4),
                 3 => lcg.below(WORDS as u32),
-                _ => 26 + lcg.below(14),
+                _ => 26 + lcg.below(17),
             } as usize;
             damaged[place] = match lcg.below(6) {
                 0 => damaged[place] ^ u32::from(lcg.one_in(2)),

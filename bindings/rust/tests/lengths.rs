@@ -16,7 +16,8 @@ use thymewax::{registers, Model, Number, SetUp, IMAGE_WORDS, VERSION};
 #[test]
 fn images_of_other_lengths() {
     let good = Memory::around(row(after(&[]).kept()));
-    for words in [0, 1, 39, 41, 200] {
+    // Version 1 had images of 40 words.
+    for words in [0, 1, 40, 42, 44, 203] {
         let mut memory = good.clone();
         memory.image.resize(words, 0);
         for numbers in CALLS {

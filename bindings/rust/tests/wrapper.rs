@@ -168,7 +168,50 @@ fn the_session_of_the_papers() {
         0x0000_0200
     );
     let empty = model.read(registers::CMDR_FIFO);
-    assert_eq!((empty.value, empty.number), (0, Number::EMPTY));
+    assert_eq!((empty.value, empty.number), (0x0000_0200, Number::EMPTY));
+}
+
+/// Each of the three queues shows the word last read from it, as often as it is read empty; a reset
+/// forgets them.
+#[test]
+fn an_empty_queue_shows_the_word_last_read() {
+    let queues = [
+        registers::CMDR_FIFO,
+        registers::SDI_FIFO,
+        registers::IBI_FIFO,
+    ];
+    let mut model = Model::set_up(&SetUp::SESSION).unwrap();
+    let shown = |model: &mut Model, words: [u32; 3]| {
+        for (offset, value) in queues.into_iter().zip(words) {
+            let before = model.clone();
+            for _ in 0..2 {
+                let number = Number::EMPTY;
+                assert_eq!(model.read(offset), Answer { value, number }, "{offset:#x}");
+            }
+            assert_eq!(*model, before);
+        }
+    };
+    shown(&mut model, [0; 3]);
+    for answer in [
+        model.write(registers::ENABLE, 0),
+        model.write(registers::DEV_CHAR, 0x110e),
+        model.write(registers::IBI_CONFIG, 3),
+        model.interrupt(8, 0x5a),
+        model.write(registers::CMD_FIFO, 0x0000_0211),
+        model.start(),
+        model.receive(0x12),
+        model.receive(0x34),
+        model.finish(0),
+    ] {
+        assert!(answer.is_done(), "{answer}");
+    }
+    let words = queues.map(|offset| model.read(offset).done().unwrap());
+    assert_eq!(words, [0x0000_0200, 0x1234_0000, 0x0010_5a00]);
+    shown(&mut model, words);
+    assert!(model.write(registers::ENABLE, 1).is_done());
+    shown(&mut model, [0; 3]);
+    assert!(model.write(registers::ENABLE, 0).is_done());
+    shown(&mut model, [0; 3]);
 }
 
 #[test]

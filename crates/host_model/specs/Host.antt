@@ -24,7 +24,7 @@ use Rattle.image_model.specs.Image.{Kept, keptOf, bankIn, sized, isKept}
 
 -- the version of layout and calls, one number for archive, header and bindings
 abbrev pub version : ℕ
-version = 1
+version = 2
 
 -- ── Set-up ────────────────────────────────────────────────────────────────────────────────────────────────────
 pub record Fresh : Type 0 where

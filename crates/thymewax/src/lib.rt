@@ -12,7 +12,7 @@ use bank::Sizes;
 pub extern "C" fn thymewax_version() -> u32
     ensures { λ n. ⌜ n ≡ version ⌝ }
 {
-    1
+    2
 }
 
 // How many words an image has.

@@ -22,6 +22,8 @@ struct Image<'a> {
     syncs: [u32; 2],
     pending: [u32; 3],
     burst: u32,
+    /// Last read from CMDR, SDI, IBI.
+    latest: [u32; 3],
     phase: u32,
     transfer: Transfer,
     flags: &'a [u32],
@@ -60,17 +62,18 @@ pub fn well_formed(words: &[u32]) -> bool {
         syncs: [words[27], words[28]],
         pending: [words[29], words[30], words[31]],
         burst: words[32],
-        phase: words[33],
+        latest: [words[33], words[34], words[35]],
+        phase: words[36],
         transfer: Transfer {
-            kind: words[34],
-            header: words[35],
-            length: words[36],
-            moved: words[37],
-            attached: words[38],
-            part: words[39],
+            kind: words[37],
+            header: words[38],
+            length: words[39],
+            moved: words[40],
+            attached: words[41],
+            part: words[42],
         },
-        flags: &words[40..168],
-        commands: &words[168..184],
+        flags: &words[43..171],
+        commands: &words[171..187],
     };
     image.queues_in_range()
         && image.fields_in_their_bits()
@@ -147,7 +150,8 @@ impl Image<'_> {
             && transfer.holds(if reads { transfer.moved } else { 0 })
     }
 
-    /// `formed.reset`: a held bank is as a reset leaves it, with neither transfer nor burst.
+    /// `formed.reset`: a held bank is as a reset leaves it, with neither transfer nor burst, and no word
+    /// read. Else what was read may be any word.
     fn quiet_in_reset(&self) -> bool {
         let empty = |ring: &[u32; 4]| ring[2] == 0 && ring[3] == 0;
         self.held == 0
@@ -156,6 +160,7 @@ impl Image<'_> {
                 && self.pending == [0; 3]
                 && self.phase == IDLE
                 && self.burst == 0
+                && self.latest == [0; 3]
     }
 }
 

@@ -4,7 +4,7 @@ use crate::memory::FILL;
 use thymewax::{registers, Call, Kept, Model, Queue, SetUp};
 
 /// Words of image and tables together: a flag has one of its own here.
-pub const WORDS: usize = 200;
+pub const WORDS: usize = 203;
 
 /// Image, flags, commands and payloads in one row.
 pub fn row(kept: &Kept) -> Vec<u32> {

@@ -169,7 +169,7 @@ impl Queue {
     }
 }
 
-/// The registers of 01's map.
+/// The registers of 01's map and those of 02 §6.
 #[derive(Clone, Copy, Debug, PartialEq, Eq)]
 enum Register {
     Version,
@@ -193,11 +193,13 @@ enum Register {
     Ops,
     IbiConfig,
     DevChar,
+    /// By the number of its queue (02 §6).
+    Watermark(usize),
     OffloadCommand(usize),
     OffloadData(usize),
 }
 
-/// None where the offset is `NO_REGISTER` (01, 'Register map').
+/// None where the offset is `NO_REGISTER` (01, 'Register map'; 02 §6).
 fn register_at(offset: u16) -> Option<Register> {
     if offset % 4 != 0 {
         return None;
@@ -224,6 +226,7 @@ fn register_at(offset: u16) -> Option<Register> {
         0x100 => Register::Ops,
         0x140 => Register::IbiConfig,
         0x180 => Register::DevChar,
+        0x200..=0x210 => Register::Watermark(usize::from(offset - 0x200) / 4),
         0x2c0..=0x2fc => Register::OffloadCommand(usize::from(offset - 0x2c0) / 4),
         0x300..=0x33c => Register::OffloadData(usize::from(offset - 0x300) / 4),
         _ => return None,
@@ -249,6 +252,12 @@ fn is_read_only(register: Register) -> bool {
             | Register::Ibi
             | Register::FifoStatus
     )
+}
+
+/// The bits of a watermark that are written; a register's other bits don't count (02 §6; 01,
+/// 'Register map').
+fn watermark_of(value: u32) -> u32 {
+    value & 0xffff
 }
 
 /// The registers that an open burst rests on, so that it refuses writes to them (02 §3).
@@ -462,6 +471,7 @@ fn interrupt_entry(address: u8, byte: u8, sync: u8) -> u32 {
 /// One controller's state.
 #[derive(Clone, Debug, PartialEq, Eq)]
 pub struct Bank {
+    /// As set-up got them; the watermarks of now are the queues' (02 §6).
     numbers: SetupNumbers,
     cmd: Queue,
     cmdr: Queue,
@@ -523,6 +533,21 @@ impl Bank {
         }
     }
 
+    /// In their order (01, 'The part of the controller we model').
+    fn queues(&self) -> [&Queue; 5] {
+        [&self.cmd, &self.cmdr, &self.sdo, &self.sdi, &self.ibi]
+    }
+
+    fn queues_mut(&mut self) -> [&mut Queue; 5] {
+        [
+            &mut self.cmd,
+            &mut self.cmdr,
+            &mut self.sdo,
+            &mut self.sdi,
+            &mut self.ibi,
+        ]
+    }
+
     /// `output` is lent to the events; what a burst reads goes there (02 §3).
     pub fn call(&mut self, call: &Call, output: &mut [u32]) -> Answer {
         match *call {
@@ -548,7 +573,8 @@ impl Bank {
     }
 
     // Accesses. The order of their numbers: 01, 'Numbers that come back', with
-    // `TRANSFER_OPEN` behind `NO_REGISTER` in a burst (02 §3).
+    // `TRANSFER_OPEN` in a burst (02 §3) and `WATERMARK_ABOVE_CAPACITY` (02 §6) behind
+    // `NO_REGISTER`. No register can give both of these.
 
     pub(crate) fn read(&mut self, offset: u16) -> Answer {
         if !self.is_well_formed() {
@@ -584,6 +610,7 @@ impl Bank {
             // Bit 7 is not stored.
             Register::Ops => u32::from(self.transfer.is_none()) << 7 | self.ops,
             Register::DevChar => self.device_characteristics(),
+            Register::Watermark(n) => self.queues()[n].watermark,
             Register::OffloadCommand(n) => self.offload_commands[n],
             Register::OffloadData(n) => self.offload_data[n],
             // These can only be written (01, 'Register map').
@@ -653,6 +680,9 @@ impl Bank {
         if self.burst_place().is_some() && is_locked_by_burst(register) {
             return refuse(TRANSFER_OPEN);
         }
+        if self.is_watermark_above_capacity(register, value) {
+            return refuse(WATERMARK_ABOVE_CAPACITY);
+        }
         if is_read_only(register) {
             return refuse(DROPPED_READ_ONLY);
         }
@@ -667,12 +697,21 @@ impl Bank {
             Register::Ops => self.ops = value & 0x7f,
             Register::IbiConfig => self.write_ibi_config(value),
             Register::DevChar => self.write_dev_char(value),
+            Register::Watermark(n) => self.queues_mut()[n].watermark = watermark_of(value),
             // 001 has them otherwise; 01 decides.
             Register::OffloadCommand(n) => self.offload_commands[n] = value,
             Register::OffloadData(n) => self.offload_data[n] = value,
             _ => return refuse(DROPPED_READ_ONLY),
         }
         done(0)
+    }
+
+    /// Only a watermark that the level can reach is taken (02 §6), as at set-up.
+    fn is_watermark_above_capacity(&self, register: Register, value: u32) -> bool {
+        match register {
+            Register::Watermark(n) => watermark_of(value) > self.queues()[n].capacity,
+            _ => false,
+        }
     }
 
     /// All 32 bits are kept (01, 'Register map').
@@ -708,14 +747,12 @@ impl Bank {
         }
     }
 
-    /// Registers that the driver has written, and the device table, stay (01, 'Register
-    /// map').
+    /// Registers that the driver has written, watermarks too (02 §6), and the device table
+    /// stay (01, 'Register map').
     fn reset(&mut self) {
-        self.cmd.reset();
-        self.cmdr.reset();
-        self.sdo.reset();
-        self.sdi.reset();
-        self.ibi.reset();
+        for queue in self.queues_mut() {
+            queue.reset();
+        }
         self.transfer = None;
         self.pending = Pending::default();
         self.receipt_sync = 0;

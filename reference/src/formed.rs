@@ -35,8 +35,8 @@ pub fn well_formed(words: &[u32]) -> bool {
 // 01, 'Numbers that come back'.
 
 /// What no set-up gives is in no bank: 1 to 1,024 words for a queue, and no fewer than 2
-/// for CMD and SDI; a watermark that its queue can reach; an ID of one byte (01, first
-/// section).
+/// for CMD and SDI; a watermark that its queue can reach, also where the driver wrote it (02
+/// §6); an ID of one byte (01, first section).
 fn set_up_in_range(bank: &Bank) -> bool {
     let least = [2, 1, 1, 2, 1];
     bank.queues.iter().zip(least).all(|(queue, least)| {

@@ -71,3 +71,8 @@ pub const WRONG_RECORD: u8 = 27;
 pub const BURST_HAS_NO_COMMANDS: u8 = 28;
 /// A command of the burst is a CCC, or longer than 4 bytes.
 pub const NOT_CARRIED: u8 = 29;
+
+// 02 §6.
+
+/// The watermark written is one that the queue's level never reaches.
+pub const WATERMARK_ABOVE_CAPACITY: u8 = 30;

@@ -4,6 +4,7 @@
 mod bursts;
 mod empty_reads;
 mod failed_writes;
+mod watermarks;
 
 use super::*;
 
@@ -79,8 +80,8 @@ fn set_up_ranges() {
     assert_eq!(set_up(&numbers).1, refuse(SET_UP_OUT_OF_RANGE));
 }
 
-/// Nothing is stored but ENABLE and the ID; what is computed shows empty queues (01,
-/// 'Numbers that come back').
+/// Nothing is stored but ENABLE, the ID and the watermarks; what is computed shows empty
+/// queues (01, 'Numbers that come back'; 02 §6).
 #[test]
 fn registers_after_set_up() {
     let mut numbers = SESSION_NUMBERS;
@@ -105,6 +106,11 @@ fn registers_after_set_up() {
         (0x100, 0x80),
         (0x140, 0),
         (0x180, 0),
+        (0x200, 1),
+        (0x204, 3),
+        (0x208, 1),
+        (0x20c, 3),
+        (0x210, 3),
         (0x2c0, 0),
         (0x2fc, 0),
         (0x300, 0),
@@ -120,7 +126,7 @@ fn registers_after_set_up() {
 
 // Accesses.
 
-/// All 65,536 offsets: reads and writes know the same 53 (01, 'Register map').
+/// All 65,536 offsets: reads and writes know the same 58 (01, 'Register map'; 02 §6).
 #[test]
 fn offsets_of_the_map() {
     let mut in_map = 0;
@@ -134,8 +140,10 @@ fn offsets_of_the_map() {
             assert_eq!(offset % 4, 0);
         }
     }
-    assert_eq!(in_map, 3 + 1 + 3 + 11 + 3 + 32);
-    for offset in [1, 0x0d5, 0x00c, 0x044, 0x08c, 0x0ec, 0x2bc, 0x2c2, 0x340] {
+    assert_eq!(in_map, 3 + 1 + 3 + 11 + 3 + 5 + 32);
+    for offset in [
+        1, 0x0d5, 0x00c, 0x044, 0x08c, 0x0ec, 0x1fc, 0x202, 0x214, 0x2bc, 0x2c2, 0x340,
+    ] {
         assert_eq!(released().read(offset), refuse(NO_REGISTER));
     }
 }
@@ -751,7 +759,7 @@ fn random_burst_command(random: &mut Random) -> u32 {
 }
 
 fn random_write(random: &mut Random) -> Call {
-    let (offset, value) = match random.below(20) {
+    let (offset, value) = match random.below(21) {
         0..=4 => (0xd4, random_command_word(random)),
         5..=8 => (0xdc, random.word()),
         9 | 10 => (0x180, 0x1100 | random.below(0x400)),
@@ -763,6 +771,7 @@ fn random_write(random: &mut Random) -> Call {
             0x2c0 + 4 * random.below(4) as u16,
             random_burst_command(random),
         ),
+        19 => (0x200 + 4 * random.below(5) as u16, random.below(7)),
         _ => (random.below(0x344) as u16, random.word()),
     };
     Call::Write { offset, value }
@@ -1006,8 +1015,9 @@ fn is_entdaa(command: &[u32]) -> bool {
 
 /// Well formed, as far as this engine has the parts (01, 'Numbers that come back'; 02 §3).
 fn check_well_formed(bank: &Bank) {
-    for queue in [&bank.cmd, &bank.cmdr, &bank.sdo, &bank.sdi, &bank.ibi] {
+    for queue in bank.queues() {
         assert!(queue.level() <= queue.capacity);
+        assert!(queue.watermark <= queue.capacity);
         assert!(!bank.in_reset || queue.is_empty() && queue.last_read == 0);
     }
     if bank.in_reset {
@@ -1046,7 +1056,7 @@ fn check_well_formed(bank: &Bank) {
 
 #[test]
 fn random_calls_keep_demand_3() {
-    let mut seen = [false; 1 + NOT_CARRIED as usize];
+    let mut seen = [false; 1 + WATERMARK_ABOVE_CAPACITY as usize];
     let mut most_receipts = 0;
     let mut words_written = 0;
     let mut removed = 0;
@@ -1103,7 +1113,7 @@ fn random_calls_keep_demand_3() {
     }
     // Every number but those that need a bank or store not well formed, a set-up or
     // a trace.
-    let not_seen: Vec<u8> = (DONE..=NOT_CARRIED)
+    let not_seen: Vec<u8> = (DONE..=WATERMARK_ABOVE_CAPACITY)
         .filter(|number| !seen[usize::from(*number)])
         .collect();
     let expected = [

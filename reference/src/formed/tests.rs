@@ -333,6 +333,7 @@ fn clear_in_reset() {
     }
     // What a reset leaves as it was.
     let others = [
+        (WATERMARK, 4),
         (ID, 255),
         (IRQ_MASK, 255),
         (OPS, 127),

@@ -111,9 +111,17 @@ enum thymewax_register {
     THYMEWAX_REG_OPS = 0x100,             /* how the controller operates */
     THYMEWAX_REG_IBI_CONFIG = 0x140,      /* interrupt requests of devices. Write-only */
     THYMEWAX_REG_DEV_CHAR = 0x180,        /* the device table: an address and its flags */
+    THYMEWAX_REG_CMD_WATERMARK = 0x200,   /* the watermark of command words: fewer words than this are a source */
+    THYMEWAX_REG_CMDR_WATERMARK = 0x204,  /* the watermark of receipts: more words than this are a source */
+    THYMEWAX_REG_SDO_WATERMARK = 0x208,   /* the watermark of payload words to send: fewer words than this are a source */
+    THYMEWAX_REG_SDI_WATERMARK = 0x20c,   /* the watermark of payload words received: more words than this are a source */
+    THYMEWAX_REG_IBI_WATERMARK = 0x210,   /* the watermark of interrupt entries: more words than this are a source */
     THYMEWAX_REG_OFFLOAD_CMD = 0x2c0,     /* the commands of a burst */
     THYMEWAX_REG_OFFLOAD_SDO = 0x300      /* the data words of a burst */
 };
+
+/* A watermark (CMD_WATERMARK, CMDR_WATERMARK, SDO_WATERMARK, SDI_WATERMARK, IBI_WATERMARK). */
+#define THYMEWAX_WATERMARK_WORDS 0x0000ffffu /* words */
 
 /* Reset and release (ENABLE). */
 #define THYMEWAX_ENABLE_RESET 0x00000001u /* 1: held in reset. 0: released */

@@ -60,6 +60,11 @@ def place(one: Register) -> str:
     return f'0x{one.offset:03x} to 0x{one.end - 4:03x}' if one.count else f'0x{one.offset:03x}'
 
 
+def kind_of(one: register_table.Register) -> str:
+    """The variant of a register without the number that tells it from others of its kind."""
+    return one.variant.partition('(')[0]
+
+
 # ── Definitions and code ────────────────────────────────────────────────────────────────────────────────────────────
 
 def bare(text: str) -> str:
@@ -80,8 +85,9 @@ def mapped(text: str) -> Facts:
     body = once(MAP, text, r'^named =\n((?:[ \t]+\S.*\n)+)')
     found: Facts = {}
     for part in (part.strip() for part in body.split('∷')):
-        if entry := re.fullmatch(r'(0x[0-9a-f]+) is (\w+)', part):
-            name = entry[2] if entry[2] not in found else f'a second {entry[2]}'
+        if entry := re.fullmatch(r'(0x[0-9a-f]+) is (\w+)(?: (\d+))?', part):
+            variant = f'{entry[2]}({entry[3]})' if entry[3] else entry[2]
+            name = variant if variant not in found else f'a second {variant}'
             found[name] = entry[1]
         elif part != '[]':
             found[f'the entry {part!r}'] = 'of another form'
@@ -96,7 +102,7 @@ def definitions(table: Table, read: Read) -> Iterator[str]:
     yield from compare(MAP, mapped(bare(read(MAP))), {one.variant: place(one) for one in table.registers})
     text = bare(read(ROWS))
     rows = {name: row for name, row in re.findall(r'^row \(?(\w+)(?: i\))? = (.+)$', text, re.M) if row != 'absent'}
-    shown = dict(re.findall(r'^shown \(?(\w+)(?: i\))? s = (.+)$', text, re.M))
+    shown = dict(re.findall(r'^shown \(?(\w+)(?: [iq]\))? s = (.+)$', text, re.M))
     found: Facts = {}
     for name, row in rows.items():
         kind, _, rest = row.partition(' ')
@@ -105,7 +111,7 @@ def definitions(table: Table, read: Read) -> Iterator[str]:
         accesses = register_table.ROWS.get(kind, ('?',))
         access = accesses[0] if kind != 'holds' else 'wo' if shown.get(cell) == '0' else 'rw'
         found[f'row {name}'] = f'{kind}, {access}'
-    yield from compare(ROWS, found, {f'row {one.variant}': f'{one.row}, {one.access}' for one in table.registers})
+    yield from compare(ROWS, found, {f'row {kind_of(one)}': f'{one.row}, {one.access}' for one in table.registers})
 
 
 def code(table: Table, read: Read) -> Iterator[str]:
@@ -113,15 +119,15 @@ def code(table: Table, read: Read) -> Iterator[str]:
     variants = once(CODE, text, r'^pub enum Register \{\n((?:    .*\n)+)\}')
     found = re.findall(r'^    (\w+)(?:\(u32\))?,$', variants, re.M)
     yield from compare(f'{CODE}, enum Register', {name: '' for name in found if name != 'Unmapped'},
-                       {one.variant: '' for one in table.registers})
-    arms: Facts = {name: offset for offset, name in re.findall(r'^        (0x\w+) => Register::(\w+),$', text, re.M)}
+                       {kind_of(one): '' for one in table.registers})
+    arms: Facts = {name: offset for offset, name in re.findall(r'^        (0x\w+) => Register::(\w+(?:\(\d+\))?),$', text, re.M)}
     memories = re.findall(r'^        (0x\w+)\.\.=(0x\w+) => \{\n.*\n +Register::(\w+)\(', text, re.M)
     arms.update({name: f'{first} to {last}' for first, last, name in memories})
     yield from compare(f'{CODE}, register_at', arms, {one.variant: place(one) for one in table.registers})
     for path in ARMS:
         found = re.findall(r'^        Register::(\w+)(?:\(i\))? =>', read(path), re.M)
         yield from compare(path, {name: '' for name in found if name != 'Unmapped'},
-                           {one.variant: '' for one in table.registers})
+                           {kind_of(one): '' for one in table.registers})
 
 
 # ── Rules, and programs that stay apart ─────────────────────────────────────────────────────────────────────────────

@@ -34,6 +34,11 @@ class Register(IntEnum):
     OPS = 0x100
     IBI_CONFIG = 0x140
     DEV_CHAR = 0x180
+    CMD_WATERMARK = 0x200
+    CMDR_WATERMARK = 0x204
+    SDO_WATERMARK = 0x208
+    SDI_WATERMARK = 0x20c
+    IBI_WATERMARK = 0x210
 
 
 # The offsets of memories.

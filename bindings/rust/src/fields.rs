@@ -59,6 +59,14 @@ impl Field {
 
 // Written by tools/names.py from docs/registers.toml: do not edit.
 
+/// A watermark (CMD_WATERMARK, CMDR_WATERMARK, SDO_WATERMARK, SDI_WATERMARK, IBI_WATERMARK).
+pub mod watermark {
+    use super::Field;
+
+    /// Words.
+    pub const WORDS: Field = Field::new(15, 0);
+}
+
 /// Reset and release (ENABLE).
 pub mod enable {
     use super::Field;

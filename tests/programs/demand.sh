@@ -1,17 +1,17 @@
 #!/bin/sh
-# Tries the checker of demand 3 on generated sessions, and on generated scripts with
-# set-ups and bursts.
+# Tries the checker of demand 3 and of refusals on generated sessions, and on generated
+# scripts with set-ups and bursts.
 #
 #   demand.sh REFERENCE LINES
 #
 # REFERENCE is the path of the built reference program, LINES the number of calls
-# in each script, enough for a receipt read (1,000 are). The program's own answers
-# must be kept; with one receipt read damaged they must be broken at its line;
-# with the last one missing they must be unusable. Exit status 0 only if so.
+# in each script, enough for an answer of each kind (1,000 are). The program's own
+# answers must be kept; with a wrong value in one of a kind they must be broken at its
+# line; with the last one missing they must be unusable. Exit status 0 only if so.
 set -eu
 
 SEEDS="1 2 3"
-CLAUSE="receipts read in order"
+KINDS="receipt shown none refusal"
 
 if [ $# -ne 2 ]; then
     echo "usage: demand.sh REFERENCE LINES" >&2
@@ -41,6 +41,26 @@ expect() {
     fi
 }
 
+# clause_of KIND: the clause that an answer of the kind breaks (wrong_answer.py).
+clause_of() {
+    case $1 in
+    receipt) echo "receipts read in order" ;;
+    shown | none) echo "an empty read shows the word read last" ;;
+    refusal) echo "other refusals have value 0" ;;
+    esac
+}
+
+# try_wrong KIND: one wrong value, which only the clause of its kind tells.
+try_wrong() {
+    line=$(python3 -B "$here/wrong_answer.py" "$1" $option "$work/script" "$work/answers" \
+        "$work/damaged")
+    expect 1 broken "$work/damaged"
+    grep -q "^broken: $(clause_of "$1"): line $line: " "$work/report" ||
+        fail "the answer damaged on line $line ($1) is not reported"
+    [ "$(grep -c '^broken: ' "$work/report")" -eq 1 ] ||
+        fail "one fault ($1) is reported for more than one clause"
+}
+
 # try_seed: one seed in one mode, `test` or none.
 try_seed() {
     option=${mode:+--$mode}
@@ -48,12 +68,9 @@ try_seed() {
     "$reference" $mode <"$work/script" >"$work/answers"
     expect 0 kept "$work/answers"
 
-    line=$(python3 -B "$here/wrong_receipt.py" $option "$work/script" "$work/answers" "$work/damaged")
-    expect 1 broken "$work/damaged"
-    grep -q "^broken: $CLAUSE: line $line: " "$work/report" ||
-        fail "the receipt read damaged on line $line is not reported"
-    [ "$(grep -c '^broken: ' "$work/report")" -eq 1 ] ||
-        fail "one fault is reported for more than one clause"
+    for kind in $KINDS; do
+        try_wrong "$kind"
+    done
 
     sed '$d' "$work/answers" >"$work/short"
     expect 2 "" "$work/short"
@@ -65,4 +82,4 @@ for seed in $SEEDS; do
         try_seed
     done
 done
-echo "demand 3: kept for seeds $SEEDS of $lines calls, broken with a damaged receipt read"
+echo "demand 3 and refusals: kept for seeds $SEEDS of $lines calls, broken with a wrong value: $KINDS"

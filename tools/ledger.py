@@ -1,5 +1,5 @@
-"""Which commands were taken, started and finished, which receipts were read, which words are in SDO,
-and which calls read the words that empty queues show.
+"""Which commands were taken, started and finished, which receipts were read, which words are in
+SDO, and which calls read the words that empty queues show.
 
 Calls and answers are all that it knows, as in the rules `demand.started` to `demand.receipts`.
 """
@@ -52,8 +52,8 @@ class Entry:
 @dataclass
 class Ledger:
     """The commands by how far they are. `lost` are those that a reset left without a receipt read,
-    with the call that reset. `data` are the words in SDO. `last_reads` has, by a queue's offset, the
-    call that read its last word since the reset (`take.empty`)."""
+    with the call that reset. `data` are the words in SDO. `last_reads` has, by a queue's offset,
+    the call that read its last word since the reset (`take.empty`)."""
 
     waiting: deque[Entry] = field(default_factory=deque)
     open: Entry | None = None

@@ -82,4 +82,4 @@ for seed in $SEEDS; do
         try_seed
     done
 done
-echo "demand 3 and refusals: kept for seeds $SEEDS of $lines calls, broken with a wrong value: $KINDS"
+echo "demand 3, refusals: kept for seeds $SEEDS of $lines calls, broken with a wrong $KINDS"

@@ -222,7 +222,7 @@ EMPTY_TOLD = [
     ('R 0d8', 'read CMDR_FIFO', old_word('CMDR_FIFO', 28)),
 ]
 # What the reads of this table show.
-EMPTY_READS = '''0 0 12000000 12000000 105a00 100 12000000 105a00 100 100 0 0 0 0'''.split()
+EMPTY_READS = '0 0 12000000 12000000 105a00 100 12000000 105a00 100 100 0 0 0 0'.split()
 # The end of the first log.
 SUMMARY = '''commands taken: 4; started: 4; finished: 3; receipts read: 1
   call 24, private read from 09, 1 byte: no receipt read, lost by the reset of call 45
@@ -378,8 +378,8 @@ def find(path, script, lines, text):
 
 
 def empty_reads(_):
-    """A bench that reads the last word again of an empty queue agrees; one that reads 0 differs, and
-    the line says where the model's value is from."""
+    """A bench that reads the last word again of an empty queue agrees; one that reads 0 differs,
+    and the line says where the model's value is from."""
     with tempfile.TemporaryDirectory() as folder:
         path = pathlib.Path(folder) / 'recorded'
         find(path, script_of(EMPTY_TOLD), EMPTY_READS, 'no difference')
@@ -387,7 +387,8 @@ def empty_reads(_):
         for place, (number, value) in enumerate(zip(read, EMPTY_READS)):
             line, *told = EMPTY_TOLD[number - 1]
             if told[-1].startswith('refused: '):
-                wrong = EMPTY_READS[:place] + ['0' if value != '0' else '1'] + EMPTY_READS[place + 1:]
+                wrong = list(EMPTY_READS)
+                wrong[place] = '0' if value != '0' else '1'
                 find(path, script_of(EMPTY_TOLD), wrong, 'first difference: call %d, R 0%s: the '
                      'model has %08x, the recording has %08x; %s\n' % (
                          number, line[2:], int(value, 16), int(wrong[place], 16),

@@ -12,7 +12,7 @@ WORD_OF = 0xfffc
 
 
 class EmptyReads(Followed):
-    """Reads of CMDR, SDI and IBI. A word of 0 counts for nothing: it looks as if there were none."""
+    """Reads of CMDR, SDI and IBI. A word of 0 is not counted: it looks as if there were none."""
 
     def taking_read(self, queue, value, number):
         if number == DONE:

@@ -76,9 +76,9 @@ FAILED_WRITES = [failed_write(kind, code) + case
                  for case in (*SDO_HAS, ROUND_THE_END, AFTER_THE_START)]
 
 # Reads of an empty queue (`take.empty`). First those that show a word: once and again; with other
-# words about, in another queue, in the output of a burst, in the store. Then refusals that show none
-# of the words that were read. Last those before a word was read since a reset or a set-up: what was
-# read earlier may still stand in the store, at both ends of the queue's part.
+# words about, in another queue, in the output of a burst, in the store. Then refusals that show
+# none of the words that were read. Last those before a word was read since a reset or a set-up:
+# what was read earlier may still stand in the store, at both ends of the queue's part.
 SHOWN, AGAIN = ' empty, shows the word read last', ' empty again, shows the same word'
 AFTER_ANOTHER = ' empty, another queue read since'
 AFTER_A_BURST = ' empty, a burst has read since'

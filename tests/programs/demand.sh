@@ -11,7 +11,6 @@
 set -eu
 
 SEEDS="1 2 3"
-KINDS="receipt shown none refusal"
 
 if [ $# -ne 2 ]; then
     echo "usage: demand.sh REFERENCE LINES" >&2
@@ -41,7 +40,7 @@ expect() {
     fi
 }
 
-# clause_of KIND: the clause that an answer of the kind breaks (wrong_answer.py).
+# clause_of KIND: the clause that an answer of the kind breaks (wrong_answers.py).
 clause_of() {
     case $1 in
     receipt) echo "receipts read in order" ;;
@@ -50,13 +49,11 @@ clause_of() {
     esac
 }
 
-# try_wrong KIND: one wrong value, which only the clause of its kind tells.
+# try_wrong KIND LINE: one wrong value, which only the clause of its kind tells.
 try_wrong() {
-    line=$(python3 -B "$here/wrong_answer.py" "$1" $option "$work/script" "$work/answers" \
-        "$work/damaged")
-    expect 1 broken "$work/damaged"
-    grep -q "^broken: $(clause_of "$1"): line $line: " "$work/report" ||
-        fail "the answer damaged on line $line ($1) is not reported"
+    expect 1 broken "$work/wrong/$1"
+    grep -q "^broken: $(clause_of "$1"): line $2: " "$work/report" ||
+        fail "the answer damaged on line $2 ($1) is not reported"
     [ "$(grep -c '^broken: ' "$work/report")" -eq 1 ] ||
         fail "one fault ($1) is reported for more than one clause"
 }
@@ -68,18 +65,21 @@ try_seed() {
     "$reference" $mode <"$work/script" >"$work/answers"
     expect 0 kept "$work/answers"
 
-    for kind in $KINDS; do
-        try_wrong "$kind"
-    done
+    python3 -B "$here/wrong_answers.py" $option "$work/script" "$work/answers" "$work/wrong" \
+        >"$work/places"
+    while read -r kind line; do
+        try_wrong "$kind" "$line"
+    done <"$work/places"
 
     sed '$d' "$work/answers" >"$work/short"
     expect 2 "" "$work/short"
     [ -s "$work/error" ] || fail "a missing answer gives no message"
 }
 
+mkdir "$work/wrong"
 for seed in $SEEDS; do
     for mode in "" test; do
         try_seed
     done
 done
-echo "demand 3, refusals: kept for seeds $SEEDS of $lines calls, broken with a wrong $KINDS"
+echo "demand 3, refusals: kept for seeds $SEEDS of $lines calls, broken with a wrong value"

@@ -1,10 +1,11 @@
 #!/usr/bin/env python3
-"""Puts a wrong value into the answers to a script.
+"""Puts a wrong value into the answers to a script, one of each kind in a file of its own.
 
-    wrong_answer.py KIND [--test] SCRIPT ANSWERS OUTPUT
+    wrong_answers.py [--test] SCRIPT ANSWERS FOLDER
 
-Of the answers of a kind the middle one gets another value. OUTPUT gets the answers; the script's
-line of that call is printed. Exit status 1 if there is no such answer. The kinds:
+Of the answers of a kind the middle one gets another value. The file of the kind's name in FOLDER
+gets the answers; the kind and the script's line of that call are printed. Exit status 1 if there is
+no answer of a kind. The kinds:
 
     receipt   a receipt read from CMDR gets another sync; no empty read shows it again
     shown     an empty queue that shows a word shows 0
@@ -62,21 +63,23 @@ KINDS = {
 
 
 def main():
-    kind, *words = sys.argv[1:] or ['']
-    paths = [pathlib.Path(word) for word in words if word != '--test']
-    if len(paths) != 3 or kind not in KINDS:
-        sys.exit('usage: wrong_answer.py KIND [--test] SCRIPT ANSWERS OUTPUT')
-    lines = call_lines(paths[0].read_bytes(), '--test' in words)
-    answers = [(int(line[:8], 16), int(line[9:])) for line in paths[1].read_bytes().splitlines()]
-    find, wrong = KINDS[kind]
-    found = find([split(line) for _, line in lines], answers)
-    if not found:
-        sys.exit('no answer of the kind %s' % kind)
-    place = found[len(found) // 2]
-    value, number = answers[place]
-    answers[place] = wrong(value), number
-    paths[2].write_bytes(b''.join(b'%08x %02d\n' % answer for answer in answers))
-    print(lines[place][0])
+    paths = [pathlib.Path(word) for word in sys.argv[1:] if word != '--test']
+    if len(paths) != 3:
+        sys.exit('usage: wrong_answers.py [--test] SCRIPT ANSWERS FOLDER')
+    script, output, folder = paths
+    lines = call_lines(script.read_bytes(), '--test' in sys.argv[1:])
+    calls = [split(line) for _, line in lines]
+    printed = output.read_bytes().splitlines()
+    answers = [(int(line[:8], 16), int(line[9:])) for line in printed]
+    for kind, (find, wrong) in KINDS.items():
+        found = find(calls, answers)
+        if not found:
+            sys.exit('no answer of the kind %s' % kind)
+        place = found[len(found) // 2]
+        value, number = answers[place]
+        damaged = [*printed[:place], b'%08x %02d' % (wrong(value), number), *printed[place + 1:]]
+        (folder / kind).write_bytes(b''.join(line + b'\n' for line in damaged))
+        print(kind, lines[place][0])
 
 
 if __name__ == '__main__':

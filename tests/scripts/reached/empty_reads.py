@@ -9,18 +9,23 @@ from thymewax import Number
 
 # The offset of the word that an offset lies in.
 WORD_OF = 0xfffc
+# Refusals that have no value, whatever the queue has to show.
+REFUSALS = {('R', Number.NOT_WELL_FORMED): REFUSED_BANK, ('R', Number.NO_REGISTER): BESIDE,
+            ('W', Number.DROPPED_READ_ONLY): WRITTEN_TO}
 
 
 class EmptyReads(Followed):
     """Reads of CMDR, SDI and IBI. A word of 0 is not counted: it looks as if there were none."""
 
     def taking_read(self, queue, value, number):
+        """Of empty reads those count that show what the reads before gave."""
         if number == DONE:
             self.take(queue, value)
-        elif number == Number.EMPTY and self.latest.get(queue):
-            self.note_shown(queue)
-        elif number == Number.EMPTY and queue not in self.latest:
-            self.note_none_read(queue)
+        elif number == Number.EMPTY and value == self.latest.get(queue, 0):
+            if value:
+                self.note_shown(queue)
+            elif queue not in self.latest:
+                self.note_none_read(queue)
 
     def take(self, queue, word):
         self.stored[self.place(queue, self.taken[queue])] = word
@@ -57,15 +62,10 @@ class EmptyReads(Followed):
             self.note(name + read_before(self.began) + OLD_WORDS)
 
     def note_refused(self, letter, offset, number):
-        """Another refusal at or beside such a queue, which has a word to show."""
-        queue = TAKING_QUEUES.get(offset & WORD_OF)
-        if queue is None or not {**self.forgotten, **self.latest}.get(queue):
-            return
-        if number == Number.NOT_WELL_FORMED and letter == 'R':
-            self.note(QUEUES[queue] + REFUSED_BANK)
-        elif not self.latest.get(queue):
-            return
-        elif number == Number.DROPPED_READ_ONLY:
-            self.note(QUEUES[queue] + WRITTEN_TO)
-        elif number == Number.NO_REGISTER and letter == 'R':
-            self.note(QUEUES[queue] + BESIDE)
+        """Another refusal at such a queue, or beside it, after a word was read from it."""
+        beside = number == Number.NO_REGISTER
+        queue = TAKING_QUEUES.get(offset & WORD_OF if beside else offset)
+        # A refused set-up forgets the words.
+        words = self.forgotten if self.refused else self.latest
+        if words.get(queue) and (letter, number) in REFUSALS:
+            self.note(QUEUES[queue] + REFUSALS[letter, number])

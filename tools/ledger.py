@@ -1,5 +1,5 @@
-"""Which commands were taken, started and finished, which receipts were read, and which words are
-in SDO.
+"""Which commands were taken, started and finished, which receipts were read, which words are in
+SDO, and which calls read the words that empty queues show.
 
 Calls and answers are all that it knows, as in the rules `demand.started` to `demand.receipts`.
 """
@@ -52,13 +52,15 @@ class Entry:
 @dataclass
 class Ledger:
     """The commands by how far they are. `lost` are those that a reset left without a receipt read,
-    with the call that reset. `data` are the words in SDO."""
+    with the call that reset. `data` are the words in SDO. `last_reads` has, by a queue's offset,
+    the call that read its last word since the reset (`take.empty`)."""
 
     waiting: deque[Entry] = field(default_factory=deque)
     open: Entry | None = None
     unread: deque[Entry] = field(default_factory=deque)
     lost: list[tuple[Entry, int]] = field(default_factory=list)
     data: deque[Data] = field(default_factory=deque)
+    last_reads: dict[int, int] = field(default_factory=dict)
     taken: int = 0
     started: int = 0
     finished: int = 0
@@ -79,7 +81,9 @@ class Ledger:
             ('W', Register.CMD_FIFO): self._take,
             ('W', Register.SDO_FIFO): self._queue,
             ('W', Register.ENABLE): self._enable,
-            ('R', Register.CMDR_FIFO): self._read,
+            ('R', Register.CMDR_FIFO): self._read_receipt,
+            ('R', Register.SDI_FIFO): self._read,
+            ('R', Register.IBI_FIFO): self._read,
             ('S', 0): self._start,
             ('T', 0): self._send,
             ('F', 0): self._finish,
@@ -125,7 +129,11 @@ class Ledger:
         self.finished += 1
         return done
 
-    def _read(self, made: Made) -> Entry:
+    def _read(self, made: Made) -> None:
+        self.last_reads[made.call.offset] = made.number
+
+    def _read_receipt(self, made: Made) -> Entry:
+        self._read(made)
         self.receipts_read += 1
         return self.unread.popleft()
 
@@ -137,4 +145,5 @@ class Ledger:
         self.unread.clear()
         self.waiting.clear()
         self.data.clear()
+        self.last_reads.clear()
         self.open = None

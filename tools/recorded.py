@@ -7,7 +7,7 @@ it: the value, a space, the number.
 import re
 
 from inputs import Bad, Made
-from thymewax import session
+from thymewax import Number, session
 
 VALUE = re.compile(r'(?:0x)?([0-9a-f]{1,8})', re.IGNORECASE)
 ANSWER = re.compile(r'([0-9a-f]{8} [0-9]{2})', re.IGNORECASE)
@@ -42,8 +42,9 @@ class Recording:
     def unit(self) -> str:
         return 'answers' if self.of_calls else 'reads'
 
-    def follow(self, made: Made) -> bool:
-        """Compares a call; says whether the first difference is here."""
+    def follow(self, made: Made, why: str) -> bool:
+        """Compares a call; says whether the first difference is here. `why` tells of a call that was
+        not done; of an empty queue it says where the model's value is from."""
         if self.difference or not (self.of_calls or made.call.letter == 'R'):
             return False
         ours = str(made.answer) if self.of_calls else '%08x' % made.answer.value
@@ -54,8 +55,9 @@ class Recording:
         self.seen += 1
         if theirs == 'has ' + ours:
             return False
-        self.difference = 'call %d, %s: the model has %s, the recording %s' % (
-            made.number, session_line(made), ours, theirs)
+        self.difference = 'call %d, %s: the model has %s, the recording %s%s' % (
+            made.number, session_line(made), ours, theirs,
+            '; ' + why if made.answer.number == Number.EMPTY else '')
         return True
 
     def end(self) -> None:

@@ -28,12 +28,12 @@ class Summary:
         self.last_refused = ''
         self.lost: list[str] = []
 
-    def follow(self, made: Made, asked: str) -> None:
+    def follow(self, made: Made, asked: str, why: str) -> None:
         self.calls += 1
         if not made.answer.refused:
             return
         self.refused[made.answer.number].append(made.number)
-        self.last_refused = 'call %d, %s: %s' % (made.number, asked, wording.why(made))
+        self.last_refused = 'call %d, %s: %s' % (made.number, asked, why)
         if made.call.letter == 'W' and made.call.offset == Register.CMD_FIFO:
             self.lost.append('call %d, %s' % (made.number, asked))
 

@@ -1,6 +1,6 @@
 """Calls and their answers in words."""
 
-from collections.abc import Callable, Sequence
+from collections.abc import Callable, Mapping, Sequence
 
 import register_table
 from inputs import Made
@@ -326,8 +326,19 @@ WHY: dict[int, Callable[[Call, Image], str]] = {
 }
 
 
-def why(made: Made) -> str:
-    """Why the call was not done: what its number means, and what stood in the way."""
-    told = WHY.get(made.answer.number)
-    more = ' (%s)' % told(made.call, made.before) if told else ''
-    return '%d, %s%s' % (made.answer.number, made.answer.meaning, more)
+def shown_again(queue: str, read: int | None) -> str:
+    """What an empty queue shows. `read` is the call that read its last word."""
+    if read is None:
+        return 'no word was read from %s since the reset' % queue
+    return 'the value is an old one: the word last read from %s, first by call %d' % (queue, read)
+
+
+def why(made: Made, last_reads: Mapping[int, int]) -> str:
+    """Why the call was not done: what its number means, and what stood in the way. Of an empty queue,
+    what its value is, by the calls that read each queue's last word."""
+    number, call = made.answer.number, made.call
+    if number == Number.EMPTY:
+        more = shown_again(register(call.offset), last_reads.get(call.offset))
+    else:
+        more = WHY[number](call, made.before) if number in WHY else ''
+    return '%d, %s%s' % (number, made.answer.meaning, ' (%s)' % more if more else '')

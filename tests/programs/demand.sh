@@ -1,17 +1,16 @@
 #!/bin/sh
-# Tries the checker of demand 3 on generated sessions, and on generated scripts with
-# set-ups and bursts.
+# Tries the checker of demand 3 and of refusals on generated sessions, and on generated
+# scripts with set-ups and bursts.
 #
 #   demand.sh REFERENCE LINES
 #
 # REFERENCE is the path of the built reference program, LINES the number of calls
-# in each script, enough for a receipt read (1,000 are). The program's own answers
-# must be kept; with one receipt read damaged they must be broken at its line;
-# with the last one missing they must be unusable. Exit status 0 only if so.
+# in each script, enough for an answer of each kind (1,000 are). The program's own
+# answers must be kept; with a wrong value in one of a kind they must be broken at its
+# line; with the last one missing they must be unusable. Exit status 0 only if so.
 set -eu
 
 SEEDS="1 2 3"
-CLAUSE="receipts read in order"
 
 if [ $# -ne 2 ]; then
     echo "usage: demand.sh REFERENCE LINES" >&2
@@ -41,6 +40,24 @@ expect() {
     fi
 }
 
+# clause_of KIND: the clause that an answer of the kind breaks (wrong_answers.py).
+clause_of() {
+    case $1 in
+    receipt) echo "receipts read in order" ;;
+    shown | none) echo "an empty read shows the word read last" ;;
+    refusal) echo "other refusals have value 0" ;;
+    esac
+}
+
+# try_wrong KIND LINE: one wrong value, which only the clause of its kind tells.
+try_wrong() {
+    expect 1 broken "$work/wrong/$1"
+    grep -q "^broken: $(clause_of "$1"): line $2: " "$work/report" ||
+        fail "the answer damaged on line $2 ($1) is not reported"
+    [ "$(grep -c '^broken: ' "$work/report")" -eq 1 ] ||
+        fail "one fault ($1) is reported for more than one clause"
+}
+
 # try_seed: one seed in one mode, `test` or none.
 try_seed() {
     option=${mode:+--$mode}
@@ -48,21 +65,21 @@ try_seed() {
     "$reference" $mode <"$work/script" >"$work/answers"
     expect 0 kept "$work/answers"
 
-    line=$(python3 -B "$here/wrong_receipt.py" $option "$work/script" "$work/answers" "$work/damaged")
-    expect 1 broken "$work/damaged"
-    grep -q "^broken: $CLAUSE: line $line: " "$work/report" ||
-        fail "the receipt read damaged on line $line is not reported"
-    [ "$(grep -c '^broken: ' "$work/report")" -eq 1 ] ||
-        fail "one fault is reported for more than one clause"
+    python3 -B "$here/wrong_answers.py" $option "$work/script" "$work/answers" "$work/wrong" \
+        >"$work/places"
+    while read -r kind line; do
+        try_wrong "$kind" "$line"
+    done <"$work/places"
 
     sed '$d' "$work/answers" >"$work/short"
     expect 2 "" "$work/short"
     [ -s "$work/error" ] || fail "a missing answer gives no message"
 }
 
+mkdir "$work/wrong"
 for seed in $SEEDS; do
     for mode in "" test; do
         try_seed
     done
 done
-echo "demand 3: kept for seeds $SEEDS of $lines calls, broken with a damaged receipt read"
+echo "demand 3, refusals: kept for seeds $SEEDS of $lines calls, broken with a wrong value"

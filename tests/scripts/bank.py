@@ -25,6 +25,8 @@ LOCKED = {Register.OPS, *OFFLOAD}
 
 CMD, CMDR, SDO, SDI, IBI = range(5)
 QUEUES = ('CMD', 'CMDR', 'SDO', 'SDI', 'IBI')
+# Those that a read takes from, by their offsets.
+TAKING_QUEUES = dict(zip(TAKING, (CMDR, SDI, IBI)))
 SESSION_CAPACITIES = (4, 4, 4, 4, 4)
 LEAST_CAPACITIES = (2, 1, 1, 2, 1)
 MOST_CAPACITY, MOST_ID = 1024, 255

@@ -124,7 +124,8 @@ def recordings():
         status, output, _ = tool('explain', '--recorded', '-', path, data=b'4\n')
         equal('explain', 'recording as input', (status, b'no difference' in output), (0, True))
         for text, line in (('4\nxyz\n', 2), ('00000004 00\n4\n', 2), ('4\n00000004 00\n', 1),
-                           ('123456789\n', 1), ('4\n\n4\n', 2), ('00000004 0\n', 1)):
+                           ('123456789\n', 1), ('4\n\n4\n', 2), ('00000004 0\n', 1),
+                           ('00000004 03\n4 3\n', 2), ('00000004  03\n', 1)):
             path.write_text(text)
             refuses('explain', '--recorded', path, told=['recording, line %d:' % line])
 

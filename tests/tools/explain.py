@@ -35,6 +35,18 @@ def telling(how):
 
 
 refused, dropped, taken = map(telling, ('refused', 'dropped', 'taken'))
+
+
+def old_word(queue, call):
+    """What is told of an empty queue that shows the word of a call."""
+    return refused(Number.EMPTY, 'the value is an old one: the word last read from %s, first by '
+                   'call %d' % (queue, call))
+
+
+def none_read(queue):
+    return refused(Number.EMPTY, 'no word was read from %s since the reset' % queue)
+
+
 # Lines and what is told of each: the words behind the answer, then the reason, if there is one.
 TOLD = [
     ('W 40 0', 'write ENABLE: release'),
@@ -62,7 +74,7 @@ TOLD = [
      '3 bytes, broadcast header, repeated start (call 11)'),
     ('R 0d8', 'read CMDR_FIFO: no error, 3 bytes moved, sync 0; private write to 08, 3 bytes, '
      'broadcast header, repeated start (call 11)'),
-    ('R 0d8', 'read CMDR_FIFO', refused(Number.EMPTY)),
+    ('R 0d8', 'read CMDR_FIFO', old_word('CMDR_FIFO', 21)),
     ('S', 'start', refused(Number.NO_COMMAND, 'CMD has 0 of 4 words')),
     ('W 0d4 00000113', 'write CMD_FIFO: private read from 09, 1 byte'),
     ('S', 'start: private read from 09, 1 byte (call 24)'),
@@ -173,6 +185,44 @@ FAILED_TOLD = [
     ('F 6', 'finish with NACK: receipt NACK, 0 bytes moved, sync 3; private read from 08, 4 bytes '
      '(call 20)'),
 ]
+# Empty queues: before a word, after one and again, each with its own; a word of 0; after a reset.
+EMPTY_TOLD = [
+    ('R 0e4', 'read IBI_FIFO', none_read('IBI_FIFO')),
+    ('W 40 0', 'write ENABLE: release'),
+    ('R 0d8', 'read CMDR_FIFO', none_read('CMDR_FIFO')),
+    ('W 180 110e', 'write DEV_CHAR: device 08, attached, may interrupt, sends a byte'),
+    ('W 140 3', 'write IBI_CONFIG: IBI_CONFIG_ENABLE, IBI_CONFIG_LISTEN'),
+    ('I 8 5a', 'interrupt request of 08 with 5a: interrupt from 08, byte 5a, sync 0'),
+    ('W 0d4 211', 'write CMD_FIFO: private read from 08, 2 bytes'),
+    ('S', 'start: private read from 08, 2 bytes (call 7)'),
+    ('X 12', 'receive 12: byte 1 of 2'),
+    ('F 0', 'finish with no error: receipt no error, 1 byte moved, sync 0; private read from 08, '
+     '2 bytes (call 7)'),
+    ('R 0e0', 'read SDI_FIFO: bytes 12 00 00 00'),
+    ('R 0e0', 'read SDI_FIFO', old_word('SDI_FIFO', 11)),
+    ('R 0e4', 'read IBI_FIFO: interrupt from 08, byte 5a, sync 0'),
+    ('R 0d8', 'read CMDR_FIFO: no error, 1 byte moved, sync 0; private read from 08, 2 bytes '
+     '(call 7)'),
+    ('R 0e0', 'read SDI_FIFO', old_word('SDI_FIFO', 11)),
+    ('R 0e4', 'read IBI_FIFO', old_word('IBI_FIFO', 13)),
+    ('R 0d8', 'read CMDR_FIFO', old_word('CMDR_FIFO', 14)),
+    ('W 0d8 0', 'write CMDR_FIFO: 00000000', dropped(Number.DROPPED_READ_ONLY)),
+    ('W 40 0', 'write ENABLE: release'),
+    ('R 0d8', 'read CMDR_FIFO', old_word('CMDR_FIFO', 14)),
+    ('W 40 1', 'write ENABLE: reset and hold'),
+    ('R 0d8', 'read CMDR_FIFO', none_read('CMDR_FIFO')),
+    ('W 40 0', 'write ENABLE: release'),
+    ('R 0e0', 'read SDI_FIFO', none_read('SDI_FIFO')),
+    ('W 0d4 10', 'write CMD_FIFO: private write to 08, 0 bytes'),
+    ('S', 'start: private write to 08, 0 bytes (call 25)'),
+    ('F 0', 'finish with no error: receipt no error, 0 bytes moved, sync 0; private write to 08, '
+     '0 bytes (call 25)'),
+    ('R 0d8', 'read CMDR_FIFO: no error, 0 bytes moved, sync 0; private write to 08, 0 bytes '
+     '(call 25)'),
+    ('R 0d8', 'read CMDR_FIFO', old_word('CMDR_FIFO', 28)),
+]
+# What the reads of this table show.
+EMPTY_READS = '0 0 12000000 12000000 105a00 100 12000000 105a00 100 100 0 0 0 0'.split()
 # The end of the first log.
 SUMMARY = '''commands taken: 4; started: 4; finished: 3; receipts read: 1
   call 24, private read from 09, 1 byte: no receipt read, lost by the reset of call 45
@@ -184,6 +234,7 @@ FAILED = '''commands taken: 4; started: 4; finished: 4; receipts read: 1
   call 16, private write to 09, 9 bytes: its receipt waits in CMDR since call 18
   call 20, private read from 08, 4 bytes: its receipt waits in CMDR since call 22
 '''
+EMPTIED = 'commands taken: 2; started: 2; finished: 2; receipts read: 2\n'
 NO_COMMANDS = 'commands taken: 0; started: 0; finished: 0; receipts read: 0\n'
 # The lone first word of a CCC is no command yet.
 PART = '''commands taken: 1; started: 1; finished: 0; receipts read: 0
@@ -199,11 +250,16 @@ def explained(*arguments, data, status=0):
     return output.decode()
 
 
+def script_of(table):
+    return '\n'.join(line for line, *_ in table).encode()
+
+
 def words(_):
     """The words of each line, and of the end."""
     for table, options, end in ((TOLD, [], SUMMARY), (BURST_TOLD, ['--bursts'], NO_COMMANDS),
-                                (CAUSES_TOLD, ['--bursts'], PART), (FAILED_TOLD, [], FAILED)):
-        log = explained(*options, data='\n'.join(line for line, *_ in table).encode())
+                                (CAUSES_TOLD, ['--bursts'], PART), (FAILED_TOLD, [], FAILED),
+                                (EMPTY_TOLD, [], EMPTIED)):
+        log = explained(*options, data=script_of(table))
         lines = iter(log.split('\n'))
         for line, *told in table:
             for place, text in enumerate(told):
@@ -244,12 +300,18 @@ def logs(program):
 
 def ledgers(_):
     """At every call the commands that wait are the words of CMD, those with an unread receipt are
-    as many as CMDR has, one is open where a transfer is, and the data words are those of SDO."""
-    removed, parts = Counter(), 0
+    as many as CMDR has, one is open where a transfer is, and the data words are those of SDO. An
+    empty queue shows what the call gave that is said to have read it."""
+    removed, parts, again = Counter(), 0, Counter()
     for seed in SEEDS:
-        model, ledger = Model.set_up(), Ledger()
+        model, ledger, values = Model.set_up(), Ledger(), {None: 0}
         for made in inputs.run(model, [session.calls(generated(seed, CALLS))]):
             about = ledger.follow(made)
+            values[made.number] = made.answer.value
+            if made.answer.number == Number.EMPTY:
+                read = ledger.last_reads.get(made.call.offset)
+                equal('ledgers', made.number, made.answer.value, values[read])
+                again[made.call.offset, read is not None] += 1
             if about and made.call.letter == 'F':
                 removed[len(about.removed)] += 1
             image = made.after
@@ -268,6 +330,7 @@ def ledgers(_):
         equal('ledgers', 'something to count', min(ledger.receipts_read, len(ledger.lost)) > 10,
               True)
     equal('ledgers', 'parts of commands', parts > 0, True)
+    equal('ledgers', 'empty queues, with a word read and without', len(again), 6)
     equal('ledgers', 'words removed', min(removed[count] for count in range(5)) > 0, True)
 
 
@@ -314,6 +377,24 @@ def find(path, script, lines, text):
     equal('differences', text, summary[summary.rindex('\nrecording'):].count(text), 1)
 
 
+def empty_reads(_):
+    """A bench that reads the last word again of an empty queue agrees; one that reads 0 differs,
+    and the line says where the model's value is from."""
+    with tempfile.TemporaryDirectory() as folder:
+        path = pathlib.Path(folder) / 'recorded'
+        find(path, script_of(EMPTY_TOLD), EMPTY_READS, 'no difference')
+        read = [number for number, (line, *_) in enumerate(EMPTY_TOLD, 1) if line[0] == 'R']
+        for place, (number, value) in enumerate(zip(read, EMPTY_READS)):
+            line, *told = EMPTY_TOLD[number - 1]
+            if told[-1].startswith('refused: '):
+                wrong = list(EMPTY_READS)
+                wrong[place] = '0' if value != '0' else '1'
+                find(path, script_of(EMPTY_TOLD), wrong, 'first difference: call %d, R 0%s: the '
+                     'model has %08x, the recording has %08x; %s\n' % (
+                         number, line[2:], int(value, 16), int(wrong[place], 16),
+                         told[-1].removeprefix('refused: ')))
+
+
 def suspects(_):
     """The refused call before the difference is named."""
     script = b'W 40 0\nW d4 1\nW d4 1\nW d4 1\nW d4 1\nW d4 1\nR c0\nR 1\n'
@@ -330,5 +411,5 @@ def suspects(_):
 if __name__ == '__main__':
     if len(sys.argv) > 2:
         sys.exit(__doc__)
-    main('explain', [words, logs, ledgers, differences, suspects],
+    main('explain', [words, logs, ledgers, differences, empty_reads, suspects],
          sys.argv[1] if len(sys.argv) == 2 else None)

@@ -1,6 +1,6 @@
 """Rings: each queue is filled past its end, turned, and emptied."""
 
-from tests.scripts.bank import CMD, CMDR, LONGEST, SDI, SDO
+from tests.scripts.bank import CMD, CMDR, LONGEST, SDI, SDO, TAKING_QUEUES
 from tests.scripts.endings import NO_ERROR
 from tests.scripts.generator.interrupts import Interrupts
 from tests.scripts.generator.moves import ADDRESS_WORD, SMALL
@@ -58,7 +58,9 @@ class Rings(Interrupts):
         self.repeat(queue, push, size + 1)
         self.repeat(queue, take, count)
         self.repeat(queue, push, count + 1)
-        self.repeat(queue, take, 1 + self.source.below(40))
+        # One that is read is emptied, and read again.
+        read = queue in TAKING_QUEUES.values()
+        self.repeat(queue, take, size + 1 if read else 1 + self.source.below(40))
 
     def repeat(self, queue, action, count):
         """Reads IRQ_SOURCE at levels next to a watermark of a set-up."""

@@ -1,6 +1,7 @@
 """Rounds: a reset or a set-up, a scenario, and steps by weight."""
 
 from tests.scripts.generator.burst_cases import BurstCases
+from tests.scripts.generator.empty_reads import EmptyReads
 from tests.scripts.generator.failed_writes import FailedWrites
 from tests.scripts.generator.no_calls import NoCalls
 from tests.scripts.generator.rings import Rings
@@ -41,7 +42,7 @@ TEST_OPEN_TABLES = [table + weighted(BURST_OPEN_STEPS) for table in OPEN_TABLES]
 TEST_HELD_TABLE = HELD_TABLE + weighted(BURST_HELD_STEPS)
 
 
-class Walk(Transfers, Rings, BurstCases, FailedWrites, SetUps, NoCalls):
+class Walk(Transfers, Rings, BurstCases, EmptyReads, FailedWrites, SetUps, NoCalls):
     """Rounds of steps and scenarios."""
 
     mood = 0
@@ -59,6 +60,8 @@ class Walk(Transfers, Rings, BurstCases, FailedWrites, SetUps, NoCalls):
         elif number > 0:
             self.hold()
         self.look_back()
+        if self.test or number % 12 == 0:
+            self.empty_reads()
         if number % 4 == 0:
             self.register_tour()
         self.steps(HELD_CALLS)

@@ -1,7 +1,7 @@
 """Set-ups: capacities and watermarks in turn, numbers out of range, calls on a refused bank."""
 
 from tests.scripts.bank import (DEVICES, LEAST_CAPACITIES, MOST_CAPACITY, MOST_ID, QUEUES,
-                                TEST_CAPACITIES)
+                                TAKING, TEST_CAPACITIES)
 from tests.scripts.endings import CODES
 from tests.scripts.generator.guess import Guess
 from tests.scripts.generator.moves import Moves
@@ -52,7 +52,8 @@ class SetUps(Moves):
     def calls_after_refusal(self):
         """Calls that would have another number in a bank that is well formed."""
         for letter, *values in (('R', 1), ('W', Register.VERSION, 0), ('W', Register.ENABLE, 0),
-                                ('F', len(CODES)), ('I', DEVICES, 0), ('R', Register.CMDR_FIFO)):
+                                ('F', len(CODES)), ('I', DEVICES, 0),
+                                *(('R', offset) for offset in TAKING)):
             if self.source.one_in(4):
                 self.script.put_call(letter, tuple(values))
 

@@ -1,18 +1,19 @@
 """Follows accesses: resets, queues, pending bits, what is stored."""
 
-from tests.scripts.bank import CMD, CMDR, IBI, LOCKED, SDI, SDO
+from tests.scripts.bank import CMD, CMDR, IBI, LOCKED, SDO, TAKING_QUEUES
 from tests.scripts.endings import REQUEST_OPEN
-from tests.scripts.reached.followed import (CMDR_PENDING, DAA_PENDING, DONE, IBI_PENDING, Followed)
+from tests.scripts.reached.empty_reads import WORD_OF, EmptyReads
+from tests.scripts.reached.followed import CMDR_PENDING, DAA_PENDING, DONE, IBI_PENDING
 from tests.scripts.reached.possible import name_at
-from tests.scripts.reached.situations import BITS, PENDING_BITS
+from tests.scripts.reached.situations import BITS, BY_RESET, PENDING_BITS
 from thymewax import Config, Number, Register
 
 CONFIG = int(Config.IBI_CONFIG_ENABLE | Config.IBI_CONFIG_LISTEN)
-# The offset of the word that an offset lies in.
-WORD_OF = 0xfffc
+# The source bit that the read which empties a queue clears.
+CLEARED_BY_READ = {CMDR: CMDR_PENDING, IBI: IBI_PENDING}
 
 
-class Accesses(Followed):
+class Accesses(EmptyReads):
     """Reads and writes."""
 
     def count_access(self, letter, offset, number):
@@ -23,12 +24,13 @@ class Accesses(Followed):
         if self.in_burst() and number == Number.NO_REGISTER and offset & WORD_OF in LOCKED:
             self.note('write: 4 before 6')
         if number != DONE:
+            self.note_refused('W', offset, number)
             return
         if offset == Register.CMD_FIFO:
             self.cmd.append(word)
-            self.push(CMD)
+            self.push(CMD, word)
         elif offset == Register.SDO_FIFO:
-            self.push(SDO)
+            self.push(SDO, word)
             self.source &= ~DAA_PENDING
         elif offset == Register.ENABLE:
             self.write_enable(word & 1)
@@ -43,6 +45,7 @@ class Accesses(Followed):
         if bit:
             self.note_reset()
             self.clear()
+            self.began = BY_RESET
             self.source = 0
         elif not self.held and self.transfer:
             self.note('release when released, %s open'
@@ -74,14 +77,10 @@ class Accesses(Followed):
 
     def call_R(self, offset, value, number):
         self.count_access('R', offset, number)
-        if number != DONE:
-            return
-        if offset == Register.CMDR_FIFO:
-            self.take(CMDR, CMDR_PENDING)
-        elif offset == Register.SDI_FIFO:
-            self.taken[SDI] += 1
-        elif offset == Register.IBI_FIFO:
-            self.take(IBI, IBI_PENDING)
+        if offset in TAKING_QUEUES:
+            self.taking_read(TAKING_QUEUES[offset], value, number)
+        elif number != DONE:
+            self.note_refused('R', offset, number)
         elif offset == Register.OPS and self.in_burst():
             self.note('OPS read in a burst')
         elif offset == Register.IRQ_SOURCE:
@@ -93,8 +92,7 @@ class Accesses(Followed):
                 if value >> bit & 1:
                     self.note('pending bit %d read as 1' % bit)
 
-    def take(self, queue, pending):
-        """The read that empties the queue clears its bit."""
-        self.taken[queue] += 1
+    def take(self, queue, word):
+        super().take(queue, word)
         if self.level(queue) == 0:
-            self.source &= ~pending
+            self.source &= ~CLEARED_BY_READ.get(queue, 0)

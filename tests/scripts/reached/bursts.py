@@ -119,6 +119,7 @@ class Bursts(Followed):
         if transfer.read:
             self.note('burst, read of %d, %d received' % (transfer.length, transfer.moved))
             self.written.add(reads_in(self.burst_words()[:place]))
+            self.burst_has_read |= transfer.moved > 0
         elif code == NO_ERROR:
             self.note('burst, write of %d, all sent' % transfer.length)
         if not transfer.read and not transfer.moved:

@@ -11,6 +11,9 @@ from tests.scripts.reached.set_ups import SetUps
 from thymewax import Number
 
 
+ACCESSES = 'WR'
+
+
 class Follower(Accesses, Events, SetUps):
     """Follows the calls of one script by their answers and counts."""
 
@@ -19,7 +22,10 @@ class Follower(Accesses, Events, SetUps):
             self.set_up(fields, number)
         elif letter == SHOW:
             self.show(*fields)
-        elif not self.refused:
+        elif self.refused:
+            if letter in ACCESSES:
+                self.note_refused(letter, fields[0], number)
+        else:
             if letter in EVENTS and self.is_short(self.lent):
                 self.note_short(letter, fields, number)
             if not (self.in_burst() and number == Number.NO_ROOM):

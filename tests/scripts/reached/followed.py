@@ -3,7 +3,8 @@
 from collections import deque
 
 from tests.scripts.bank import QUEUES, SESSION_CAPACITIES, Bank
-from tests.scripts.reached.situations import ALL_ORDERS, IDLE, IN_RESET, TRANSFER_OPEN
+from tests.scripts.reached.situations import (ALL_ORDERS, BY_SET_UP, IDLE, IN_RESET,
+                                              TRANSFER_OPEN)
 from thymewax import Irq, Number
 
 DONE = Number.DONE
@@ -15,13 +16,18 @@ DIRECT, BURST = 'direct transfer', 'burst'
 
 class Followed(Bank):
     """The state. `source` is what is left of the last read of IRQ_SOURCE, `written` has the words
-    of the output that bursts have filled since it was lent."""
+    of the output that bursts have filled since it was lent.
+
+    Of the queues that a read takes from: `latest` has the words read last since the reset, which
+    made them `forgotten`, or the set-up did, as `began` says; `stored` the words of the store that
+    are known, by their places; `empty` the queues read as empty since."""
 
     def __init__(self, counts):
         super().__init__()
         self.counts = counts
         self.lent = 0
         self.written = set()
+        self.latest, self.forgotten, self.stored = {}, {}, {}
         self.new_bank(SESSION_CAPACITIES)
 
     def new_bank(self, capacities):
@@ -32,6 +38,7 @@ class Followed(Bank):
         self.refused = False
         self.last_closed = None
         self.clear()
+        self.began = BY_SET_UP
 
     def clear(self):
         """What a reset does to it."""
@@ -41,6 +48,11 @@ class Followed(Bank):
         self.receipts = self.interrupts = 0
         self.transfer = None
         self.request_refused = False
+        self.forgotten.update(self.latest)
+        self.latest = {}
+        self.last_read = None
+        self.empty = set()
+        self.burst_has_read = False
 
     def level(self, queue):
         return self.pushed[queue] - self.taken[queue]
@@ -48,7 +60,12 @@ class Followed(Bank):
     def room(self, queue):
         return self.capacities[queue] - self.level(queue)
 
-    def push(self, queue):
+    def place(self, queue, count):
+        """Where in the store the word lies that the queue was given after so many others."""
+        return sum(self.capacities[:queue]) + count % self.capacities[queue]
+
+    def push(self, queue, word=None):
+        self.stored[self.place(queue, self.pushed[queue])] = word
         self.pushed[queue] += 1
         size = self.capacities[queue]
         if self.level(queue) == size:

@@ -1,7 +1,7 @@
 """The situations that scripts must reach, by the names under which they are counted."""
 
 from tests.scripts.bank import (BURST_LENGTH, CARRIED_LENGTH, LEAST_CAPACITIES, OUTPUT_WORDS,
-                                QUEUES, SESSION_CAPACITIES, TEST_CAPACITIES)
+                                QUEUES, SESSION_CAPACITIES, TAKING_QUEUES, TEST_CAPACITIES)
 from tests.scripts.endings import CE2, ENDINGS, NACK, NO_ERROR, NONE_MOVED, UNKNOWN, UNSENT
 from tests.scripts.reached.possible import EVENTS
 from thymewax import Irq, Number
@@ -75,6 +75,46 @@ FAILED_WRITES = [failed_write(kind, code) + case
                  for code in states[NONE_MOVED] if code in UNSENT
                  for case in (*SDO_HAS, ROUND_THE_END, AFTER_THE_START)]
 
+# Reads of an empty queue (`take.empty`). First those that show a word: once and again; with other
+# words about, in another queue, in the output of a burst, in the store. Then refusals that show
+# none of the words that were read. Last those before a word was read since a reset or a set-up:
+# what was read earlier may still stand in the store, at both ends of the queue's part.
+SHOWN, AGAIN = ' empty, shows the word read last', ' empty again, shows the same word'
+AFTER_ANOTHER = ' empty, another queue read since'
+AFTER_A_BURST = ' empty, a burst has read since'
+ANOTHER_AT_HEAD = ' empty, wrapped, another word at the head'
+WRITTEN_TO, BESIDE = ' written to, a word read before', ' beside its offset, a word read before'
+REFUSED_BANK = ' read after a refused set-up, a word read before'
+BY_RESET, BY_SET_UP = 'reset', 'set-up'
+NEVER_READ, OLD_WORDS = 'no word read yet', ', old words in the store'
+READ_QUEUES = [QUEUES[queue] for queue in TAKING_QUEUES.values()]
+
+
+def empty_before_words(queue, held):
+    return '%s empty, %s, ' % (queue, 'in reset' if held else 'released')
+
+
+def read_before(began):
+    return 'a word read before the ' + began
+
+
+EMPTY_READS = (
+    [queue + case for queue in READ_QUEUES
+     for case in (SHOWN, AGAIN, AFTER_ANOTHER, ANOTHER_AT_HEAD, WRITTEN_TO, BESIDE)]
+    + [empty_before_words(queue, held) + case for queue in READ_QUEUES for held in (True, False)
+       for case in (NEVER_READ, read_before(BY_RESET), read_before(BY_RESET) + OLD_WORDS)]
+)
+# With set-ups and bursts. A queue of one word has its last word at the head.
+SET_UP_EMPTY_READS = (
+    ['%s of %d empty, wrapped' % (queue, size) for queue in READ_QUEUES for size in TEST_CAPACITIES
+     if size >= LEAST_CAPACITIES[QUEUES.index(queue)]]
+    + [queue + case for queue in READ_QUEUES
+       for case in (SHOWN, AGAIN, ANOTHER_AT_HEAD, REFUSED_BANK)]
+    + [empty_before_words(queue, held) + read_before(began) + OLD_WORDS for queue in READ_QUEUES
+       for held in (True, False) for began in (BY_RESET, BY_SET_UP)]
+    + ['SDI' + AFTER_A_BURST]
+)
+
 SESSION_SITUATIONS = (
     ['%s full with head at %d' % (queue, head)
      for queue, size in zip(QUEUES, SESSION_CAPACITIES) for head in range(size)]
@@ -113,6 +153,7 @@ SESSION_SITUATIONS = (
     + ['source bit %d read as %d' % (bit, value) for bit in BITS for value in (0, 1)]
     + ['pending bit %d read as 1' % bit for bit in BITS]
     + ['bit %d cleared by a write' % bit for bit in PENDING_BITS]
+    + EMPTY_READS
 )
 
 # What each of the 128 device addresses must have been used for.
@@ -130,6 +171,7 @@ SET_UP_SITUATIONS = (
     + ['%s watermark above the capacity refused' % queue for queue in QUEUES]
     + ['ID above 255 refused']
     + ['set-up during a transfer', 'receipt number above 256', 'interrupt number above 256']
+    + SET_UP_EMPTY_READS
 )
 
 LENGTHS = range(CARRIED_LENGTH + 1)

@@ -58,8 +58,16 @@ class Script:
         self.see(name, **dict.fromkeys(fields, 1))
 
     def empty(self, name):
-        """A read of an empty queue."""
-        self.steps.append(read(self.registers[name], 0, Number.EMPTY))
+        """A read of an empty queue, which shows the word of the read before it."""
+        register = self.registers[name]
+        line = read(register, 0).line
+        value = next(step.value for step in reversed(self.steps) if step.line == line)
+        self.steps.append(read(register, value, Number.EMPTY))
+
+    def empty_at_reset(self, name):
+        """A read of a queue that a reset has emptied."""
+        register = self.registers[name]
+        self.steps.append(read(register, register.reset, Number.EMPTY))
 
     def event(self, line, value=0, answer=Number.DONE):
         self.steps.append(Step(line, value, answer))

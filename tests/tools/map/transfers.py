@@ -98,6 +98,11 @@ def transfers(registers):
     script.empty('CMDR_FIFO')
     script.see('CMDR_FIFO_LEVEL', CMDR_FIFO_LEVEL=0)
     script.see_bits('FIFO_STATUS', 'SDI_EMPTY', 'IBI_EMPTY', 'CMDR_EMPTY')
+    for name in ('SDI_FIFO', 'CMDR_FIFO'):
+        script.empty(name)
+    script.release()
+    for name in ('SDI_FIFO', 'CMDR_FIFO'):
+        script.empty_at_reset(name)
     return script.steps
 
 
@@ -219,6 +224,8 @@ def listening(registers):
         script.see('IBI_FIFO', **entry)
     script.empty('IBI_FIFO')
     script.see('IBI_FIFO_LEVEL', IBI_FIFO_LEVEL=0)
+    script.release()
+    script.empty_at_reset('IBI_FIFO')
     return script.steps
 
 

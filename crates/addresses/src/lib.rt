@@ -2,7 +2,10 @@
 // `take.address`). It knows the state, and of SDO its first word.
 ghost use mathlib.Core.Path.{_≡_};
 ghost use mathlib.Core.Bool.{cond};
-ghost use Prim.Native.Nat.{ℕ, _/_, _%_, _^_};
+ghost use Prim.Native.Nat.{ℕ};
+ghost use Prim.Native.Nat.{_/_};
+ghost use Prim.Native.Nat.{_%_};
+ghost use Prim.Native.Nat.{_^_};
 ghost use lib.Count.{ones};
 ghost use lib.Dec.{eqb};
 ghost use Rattle.bank.specs.declared.Phase.the-variants.{Requested, Answered};

@@ -3,7 +3,8 @@
 // is well formed. It knows no call.
 ghost use mathlib.Core.Path.{_≡_};
 ghost use mathlib.Core.Bool.{cond};
-ghost use Prim.Native.Nat.{_+_, _-_};
+ghost use Prim.Native.Nat.{_+_};
+ghost use Prim.Native.Nat.{_-_};
 ghost use Rattle.bank.specs.Bits.{bit};
 ghost use Rattle.bank.specs.SetUp.{sizeOk, marksOk, cleared, total};
 use ring::Bytes;

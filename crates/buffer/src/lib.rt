@@ -1,6 +1,7 @@
 // A buffer for input that comes in pieces: the bytes that a piece did not use go to the front. It knows bytes alone.
 ghost use mathlib.Core.Path.{_≡_};
-ghost use Prim.Native.Nat.{_+_, _≤_};
+ghost use Prim.Native.Nat.{_+_};
+ghost use Prim.Native.Nat.{_≤_};
 ghost use lib.ListN.{length, take, drop};
 
 // The `held` bytes from `used` on, moved to the front; those behind them are left free. A layer: the caller has to know

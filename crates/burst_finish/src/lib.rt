@@ -3,7 +3,10 @@
 ghost use mathlib.Core.Path.{_≡_};
 ghost use mathlib.Core.Bool.{true, cond, _||_};
 ghost use mathlib.Core.List.{List};
-ghost use Prim.Native.Nat.{ℕ, _+_, _-_, _≤_};
+ghost use Prim.Native.Nat.{ℕ};
+ghost use Prim.Native.Nat.{_+_};
+ghost use Prim.Native.Nat.{_-_};
+ghost use Prim.Native.Nat.{_≤_};
 ghost use lib.ListN.{length, getD};
 ghost use Rattle.bank.specs.declared.Phase.the-variants.{Idle};
 ghost use Rattle.bank.specs.Bits.{bit, bits};

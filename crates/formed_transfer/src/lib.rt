@@ -1,7 +1,10 @@
 // A part of well formed: the length of the open transfer (`formed.fields`), the bytes that it has moved
 // (`formed.moved`) and its part word (`formed.part`).
 ghost use mathlib.Core.Path.{_≡_};
-ghost use Prim.Native.Nat.{_-_, _*_, _%_, _^_};
+ghost use Prim.Native.Nat.{_-_};
+ghost use Prim.Native.Nat.{_*_};
+ghost use Prim.Native.Nat.{_%_};
+ghost use Prim.Native.Nat.{_^_};
 ghost use lib.Dec.{eqb};
 ghost use Rattle.bank.specs.Formed.{transferOk, phaseOk};
 use bank::Phase;

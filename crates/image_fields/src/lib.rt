@@ -1,6 +1,7 @@
 // A state and its heads out of the words of an image. Layers, no interface.
 ghost use mathlib.Core.Path.{_≡_};
-ghost use Prim.Native.Nat.{_+_, _≤_};
+ghost use Prim.Native.Nat.{_+_};
+ghost use Prim.Native.Nat.{_≤_};
 ghost use lib.ListN.{length};
 ghost use Rattle.image_model.specs.Image.{size, countsIn, headsIn, byteIn, bitIn, kindIn, transferIn, phaseIn, regsIn, controlIn, stateIn};
 use bank::Control;

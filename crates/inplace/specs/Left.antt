@@ -7,5 +7,5 @@ use Rattle.model.specs.Engine.{Step}
 use Rattle.model.specs.Rings.{Controller}
 use Rattle.answer.specs.Given.{controller}
 
-abbrev pub left : Bank → Answer → List ℕ → List ℕ → Step Controller
-left b a s o = record { answer = a; next = controller b s o }
+abbrev pub leftInPlace : Bank → Answer → List ℕ → List ℕ → Step Controller
+leftInPlace b a s o = record { answer = a; next = controller b s o }

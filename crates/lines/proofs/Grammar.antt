@@ -15,7 +15,7 @@ use Rattle.lines.specs.declared.Reading.{Reading}
 use Rattle.letters.specs.declared.Parsed.{Parsed}
 use Rattle.letters.specs.declared.Parsed.the-variants.{Named, Skipped}
 use Rattle.letters.specs.Forms.{Form, forms, formWith, formOf}
-use Rattle.letters.specs.Named.{cut, namedBy}
+use Rattle.letters.specs.Named.{lowDigits, namedBy}
 use Rattle.lines.specs.Lines.{hexOf, allHex, isField, valueOf, before, behind, field, noneLeft, byFields, byLetter, lineNames}
 use Rattle.lines.specs.Automaton.{readingWith, skipped, digitsOf, letterRead, eatOf, readingOf, callRead}
 use Rattle.lines.proofs.Choices.{chosen, passed, split, both}
@@ -153,7 +153,7 @@ module _ (K : ℕ → ℕ → Parsed) where
   ends c first v e [] = e
   ends c first v e (part ∷ parts) = refl
 
-  one-more : (g : ℕ → Call) (d first v : ℕ) → ((w : ℕ) → K v w ≡ Named (g (cut (suc d) w))) → (parts : List (List ℕ))
+  one-more : (g : ℕ → Call) (d first v : ℕ) → ((w : ℕ) → K v w ≡ Named (g (lowDigits (suc d) w))) → (parts : List (List ℕ))
       → rest K (suc d) 0 first v parts ≡ field (suc d) parts (λ w parts₁. noneLeft (g w) parts₁)
   unfolding rest
   one-more g d first v h [] = rw (ne-eqb (suc d) 0 (λ e. omega (arith, e)))
@@ -164,7 +164,7 @@ module _ (K : ℕ → ℕ → Parsed) where
       (λ e. chosen _ _ _ e ∙ ends (g w) v w (h w ∙ ap (λ (n : ℕ). Named (g n)) (mod-eq-of-lt (below (suc d) part e))) parts ∙ sym (chosen _ _ _ e))
       (λ e. passed _ _ _ e ∙ sym (passed _ _ _ e))
 
-  two-more : (g : ℕ → ℕ → Call) (d d′ first v : ℕ) → ((w x : ℕ) → K w x ≡ Named (g (cut (suc d) w) (cut (suc d′) x))) → (parts : List (List ℕ))
+  two-more : (g : ℕ → ℕ → Call) (d d′ first v : ℕ) → ((w x : ℕ) → K w x ≡ Named (g (lowDigits (suc d) w) (lowDigits (suc d′) x))) → (parts : List (List ℕ))
       → rest K (suc d) (suc d′) first v parts ≡ field (suc d) parts (λ w parts₁. field (suc d′) parts₁ (λ x parts₂. noneLeft (g w x) parts₂))
   unfolding rest
   two-more g d d′ first v h [] = rw (ne-eqb (suc d) 0 (λ e. omega (arith, e)))
@@ -172,7 +172,7 @@ module _ (K : ℕ → ℕ → Parsed) where
       let w = valueOf part in
       passed (eqb (suc d) 0) _ _ (ne-eqb (suc d) 0 (λ e. omega (arith, e)))
       ∙ split (isField (suc d) part)
-      (λ e. chosen _ _ _ e ∙ one-more (g w) d′ v w (λ x. h w x ∙ ap (λ (n : ℕ). Named (g n (cut (suc d′) x))) (mod-eq-of-lt (below (suc d) part e))) parts ∙ sym (chosen _ _ _ e))
+      (λ e. chosen _ _ _ e ∙ one-more (g w) d′ v w (λ x. h w x ∙ ap (λ (n : ℕ). Named (g n (lowDigits (suc d′) x))) (mod-eq-of-lt (below (suc d) part e))) parts ∙ sym (chosen _ _ _ e))
       (λ e. passed _ _ _ e ∙ sym (passed _ _ _ e))
 
 abbrev next : Form → ℕ

@@ -1,7 +1,9 @@
 // Numbers of two and of four bytes, the low byte first, as traces have them (`trace.form`). It knows bytes alone.
 // Layers: the caller has to know that the place lies inside.
 ghost use mathlib.Core.Path.{_≡_};
-ghost use Prim.Native.Nat.{_+_, _≤_, _<_};
+ghost use Prim.Native.Nat.{_+_};
+ghost use Prim.Native.Nat.{_≤_};
+ghost use Prim.Native.Nat.{_<_};
 ghost use lib.ListN.{length};
 ghost use Rattle.little_endian.specs.Numbers.{twoAt, fourAt};
 

@@ -17,7 +17,7 @@ use Rattle.model.specs.Cases.{answered, allHold, rounds, worked, thirdBy
 use Rattle.model.specs.Removal.{refusedOnce, roundedUp, fewer, noBytes, kinds, roundTheEnd, othersKeep, assignmentKeeps, noRoomKeeps, burstKeeps, sessions, RemovalsWork}
 use Rattle.model.specs.BurstLaw.{after}
 use Rattle.model.specs.BurstCases.{callsOf, sampling, attaching, refusing, openedBurst, shortened, BurstsWork}
-use Rattle.model.specs.Tallies.{sessionCalls, sessionTally, assignmentCalls, assignmentTally, writes, retryCalls, retryTally, droppedCalls, droppedTally, burstCalls, burstTally, Counted}
+use Rattle.model.specs.Tallies.{sessionCalls, sessionTally, assignmentCalls, assignmentTally, writes, retryCalls, retryTally, droppedCalls, droppedTally, burstCalls, burstTally, WorkedTallies}
 
 -- ── What opens where calls compute ────────────────────────────────────────────────────────────────────────────
 -- set-up, and whether a bank is well formed
@@ -45,9 +45,9 @@ pub hold : Hold
 unfolding steps answered allHold rounds worked thirdByte releasedCase fifthWrite cccAlone addresses fiveBytes interrupt8 receipt257 table Hold
 hold = refl
 
-pub counted : Counted
+pub tallied : WorkedTallies
 unfolding steps tally sessionCalls sessionTally assignmentCalls assignmentTally writes retryCalls retryTally droppedCalls droppedTally burstCalls burstTally
-counted = record { worked = refl; assignment = refl; retry = refl; dropped = refl; burst = refl }
+tallied = record { worked = refl; assignment = refl; retry = refl; dropped = refl; burst = refl }
 
 pub bursts-work : BurstsWork
 unfolding steps answered after callsOf sampling attaching refusing openedBurst shortened

@@ -10,16 +10,16 @@ use Rattle.model.specs.BurstLaw.{after}
 use Rattle.model.specs.Cases.{workedSession, Line, _⇝_·_, answered, release}
 
 -- the session with an output lent
-abbrev pub lent : List ℕ → Controller
-lent o = rings .lend o workedSession
+abbrev pub sessionLending : List ℕ → Controller
+sessionLending o = rings .lend o workedSession
 
 unfoldable pub callsOf : List Line → List Call
 callsOf [] = []
 callsOf ((c ⇝ v · n) ∷ ls) = c ∷ callsOf ls
 
 pub record Works (o : List ℕ) (ls : List Line) (left : List ℕ) : Type 0 where
-  pub answers : answered (lent o) ls ≡ true
-  pub output : after (lent o) (callsOf ls) .output ≡ left
+  pub answers : answered (sessionLending o) ls ≡ true
+  pub output : after (sessionLending o) (callsOf ls) .output ≡ left
 
 -- A write of two bytes to device 8, a read of three from 9, a write of one to 8, a read of four from 10, which is not attached, and one of
 -- four from 8, which does not acknowledge. Three words of the output are the reads'; the fourth stays. No receipt, no pending bit; the
@@ -61,4 +61,4 @@ pub record BurstsWork : Type 0 where
   pub sampled : Works (0xffffffff ∷ 0xffffffff ∷ 0xffffffff ∷ 0xffffffff ∷ []) sampling (0x01020300 ∷ 0 ∷ 0 ∷ 0xffffffff ∷ [])
   pub attached : Works (0 ∷ []) attaching (0x01020304 ∷ [])
   pub refused : Works [] refusing []
-  pub shorter : answered (rings .lend [] (after (lent (0 ∷ [])) (callsOf openedBurst))) shortened ≡ true
+  pub shorter : answered (rings .lend [] (after (sessionLending (0 ∷ [])) (callsOf openedBurst))) shortened ≡ true

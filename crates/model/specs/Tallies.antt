@@ -81,7 +81,7 @@ burstCalls =
 unfoldable pub burstTally : Tally
 burstTally = let w = took 0x10 false false in record { words = record { written = w ∷ w ∷ []; roomSeen = false; credit = 0 }; past = ended 0x10 0 0 0 ∷ ended 0x10 0 0 1 ∷ []; now = none; receipts = 0 ∷ [] }
 
-pub record Counted : Type 0 where
+pub record WorkedTallies : Type 0 where
   pub worked : tally rings none workedSession (lending [] sessionCalls) ≡ some sessionTally
   pub assignment : tally rings none workedSession (lending [] assignmentCalls) ≡ some assignmentTally
   pub retry : tally rings none workedSession (lending [] retryCalls) ≡ some retryTally

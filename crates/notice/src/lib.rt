@@ -2,7 +2,11 @@
 // whole, and says on standard error what happened. It knows bytes and file descriptors.
 ghost use mathlib.Core.Path.{_≡_};
 ghost use mathlib.Core.List.{_++_};
-ghost use Prim.Native.Nat.{_+_, _/_, _%_, _^_, _≤_};
+ghost use Prim.Native.Nat.{_+_};
+ghost use Prim.Native.Nat.{_/_};
+ghost use Prim.Native.Nat.{_%_};
+ghost use Prim.Native.Nat.{_^_};
+ghost use Prim.Native.Nat.{_≤_};
 ghost use lib.ListN.{length, take};
 ghost use Rattle.notice.specs.Notice.{Noticed};
 

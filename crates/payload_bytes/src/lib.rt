@@ -1,7 +1,13 @@
 // What sends and receives share, in a burst and outside: the tests 5, 7, 20, 10 and 11 (`send.tests`, `receive.tests`),
 // the count of bytes moved, and the place of a byte in its word (`payload.order`).
 ghost use mathlib.Core.Path.{_≡_};
-ghost use Prim.Native.Nat.{_+_, _-_, _*_, _%_, _^_, _<_, _≤_};
+ghost use Prim.Native.Nat.{_+_};
+ghost use Prim.Native.Nat.{_-_};
+ghost use Prim.Native.Nat.{_*_};
+ghost use Prim.Native.Nat.{_%_};
+ghost use Prim.Native.Nat.{_^_};
+ghost use Prim.Native.Nat.{_<_};
+ghost use Prim.Native.Nat.{_≤_};
 ghost use Rattle.model.specs.Calls.{advanced};
 ghost use Rattle.payload_bytes.specs.Bytes.{byteNumber};
 use bank::State;

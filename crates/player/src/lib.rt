@@ -1,7 +1,8 @@
 // The records of a section, played one after another (`replay.calls`). It knows records and calls, and no file. The two
 // tests of bank and store are made once, before the records: no call changes what they say (`formed.kept`).
 ghost use mathlib.Core.Path.{_≡_};
-ghost use Prim.Native.Nat.{_*_, _≤_};
+ghost use Prim.Native.Nat.{_*_};
+ghost use Prim.Native.Nat.{_≤_};
 ghost use lib.ListN.{length};
 ghost use Rattle.answer.specs.Given.{bankWith, controller};
 ghost use Rattle.answer.specs.Memory.{memory, lent, left, controllerOf};

@@ -1,7 +1,11 @@
 // An answer as text (`session.answers`): one line of twelve bytes. It knows no call.
 ghost use mathlib.Core.Path.{_≡_};
 ghost use mathlib.Core.List.{_++_};
-ghost use Prim.Native.Nat.{_+_, _/_, _%_, _<_, _≤_};
+ghost use Prim.Native.Nat.{_+_};
+ghost use Prim.Native.Nat.{_/_};
+ghost use Prim.Native.Nat.{_%_};
+ghost use Prim.Native.Nat.{_<_};
+ghost use Prim.Native.Nat.{_≤_};
 ghost use lib.ListN.{length, take};
 ghost use Rattle.print.specs.Line.{glyph, lineOf};
 use bank::Answer;

@@ -2,7 +2,11 @@
 // `word` is the first of the queue that the register takes from.
 ghost use mathlib.Core.Path.{_≡_};
 ghost use mathlib.Core.Bool.{_&&_};
-ghost use Prim.Native.Nat.{_+_, _*_, _^_, _<_, _≤_};
+ghost use Prim.Native.Nat.{_+_};
+ghost use Prim.Native.Nat.{_*_};
+ghost use Prim.Native.Nat.{_^_};
+ghost use Prim.Native.Nat.{_<_};
+ghost use Prim.Native.Nat.{_≤_};
 ghost use lib.Dec.{eqb};
 ghost use lib.ListN.{getD};
 ghost use Rattle.registers.specs.declared.Register.the-variants.{CmdrFifo, SdiFifo, IbiFifo};

@@ -1,7 +1,10 @@
 // Records of a trace (`trace.record`, `trace.wrong`): which call one names, its bytes, and how many some bytes have.
 ghost use mathlib.Core.Path.{_≡_};
 ghost use mathlib.Core.Bool.{cond};
-ghost use Prim.Native.Nat.{_+_, _*_, _<_, _≤_};
+ghost use Prim.Native.Nat.{_+_};
+ghost use Prim.Native.Nat.{_*_};
+ghost use Prim.Native.Nat.{_<_};
+ghost use Prim.Native.Nat.{_≤_};
 ghost use lib.ListN.{length};
 ghost use Rattle.letters.specs.declared.Parsed.the-variants.{Named, Skipped};
 ghost use Rattle.letters.specs.Forms.{formOf};

@@ -2,7 +2,8 @@
 // bank, and lines to standard output, in pieces, with buffers of 64 KiB at most. Where input or output fails, it says
 // so on standard error (`program.failure`); what could not be read counts as not there.
 ghost use mathlib.Core.Path.{_≡_};
-ghost use Prim.Native.Nat.{_≤_, _<_};
+ghost use Prim.Native.Nat.{_≤_};
+ghost use Prim.Native.Nat.{_<_};
 ghost use lib.ListN.{length};
 use bank::Bank;
 use stream_model::Stage;

@@ -1,7 +1,9 @@
 // Counts of bytes and of words, and a ring of 32-bit words in an area of a lent store, for any capacity from 1 on. It
 // knows places and a store, and not what a queue is for. A layer: the calls above it test what it asks of its caller.
 ghost use mathlib.Core.Path.{_≡_};
-ghost use Prim.Native.Nat.{_+_, _<_, _≤_};
+ghost use Prim.Native.Nat.{_+_};
+ghost use Prim.Native.Nat.{_<_};
+ghost use Prim.Native.Nat.{_≤_};
 ghost use lib.ListN.{length, getD, set};
 ghost use Rattle.ring.specs.Units.{wordsFor};
 ghost use Rattle.ring.specs.Ring.{Valid, placeOf, pushedOf, takenOf, clearedOf, entries};

@@ -1,7 +1,8 @@
 // What the operations of an effect do to the five rings of a lent store (`ring.push`, `ring.take`, `ring.clear`), once
 // for every call.
 ghost use mathlib.Core.Path.{_≡_};
-ghost use Prim.Native.Nat.{_+_, _≤_};
+ghost use Prim.Native.Nat.{_+_};
+ghost use Prim.Native.Nat.{_≤_};
 ghost use lib.ListN.{length};
 ghost use Rattle.ring.specs.Ring.{Valid};
 ghost use Rattle.bank.specs.Queues.{queuesOf};

@@ -1,7 +1,8 @@
 // A program that samples a sensor by offload bursts, on the interface: a thousand bursts of three reads of two bytes,
 // one line of a CSV table for each. It is the sensor too, with made-up waves. The last line says whether every answer
 // had the number 0.
-ghost use Prim.Native.Nat.{_+_, _≤_};
+ghost use Prim.Native.Nat.{_+_};
+ghost use Prim.Native.Nat.{_≤_};
 ghost use lib.ListN.{length};
 use bank::Bank;
 use model::Call;

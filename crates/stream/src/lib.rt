@@ -2,7 +2,9 @@
 // what is still to come, and no program. `out` takes the text; its bytes past the text are left free.
 ghost use mathlib.Core.Path.{_≡_};
 ghost use mathlib.Core.List.{[]};
-ghost use Prim.Native.Nat.{_+_, _≤_, _<_};
+ghost use Prim.Native.Nat.{_+_};
+ghost use Prim.Native.Nat.{_≤_};
+ghost use Prim.Native.Nat.{_<_};
 ghost use lib.ListN.{length};
 ghost use Rattle.answer.specs.Given.{controller};
 ghost use Rattle.trace_model.specs.Head.{headOf};

@@ -2,7 +2,9 @@
 // knows what is still to come, and no record. `out` takes the text; its bytes past the text are left free.
 ghost use mathlib.Core.Path.{_≡_};
 ghost use mathlib.Core.List.{List, [], _++_};
-ghost use Prim.Native.Nat.{ℕ, _+_, _≤_};
+ghost use Prim.Native.Nat.{ℕ};
+ghost use Prim.Native.Nat.{_+_};
+ghost use Prim.Native.Nat.{_≤_};
 ghost use lib.ListN.{length, take};
 ghost use Rattle.answer.specs.Given.{controller};
 ghost use Rattle.print.specs.Line.{lineOf};

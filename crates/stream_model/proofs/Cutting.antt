@@ -18,7 +18,7 @@ use Rattle.trace_model.specs.Head.{headOf}
 use Rattle.trace_model.proofs.Table.{and-true}
 use Rattle.record_model.specs.Record.{wholeRecords}
 use Rattle.stream_model.specs.declared.Stage.the-variants.{Opening, Records, Over}
-use Rattle.stream_model.specs.Stream.{Printed, lines, Stream, stream, over, recordsOf, openedBy, streamFed}
+use Rattle.stream_model.specs.Stream.{RecordsPrinted, lines, Stream, stream, over, recordsOf, openedBy, streamFed}
 use Rattle.stream_model.specs.Laws.{afterPiece, CutAnywhere}
 use Rattle.stream_model.proofs.Counts.{within-is, within-most, within-long}
 use Rattle.stream_model.proofs.Prefix.{Kept, head-kept}
@@ -85,14 +85,14 @@ over-cut l a b t number = λ j. stream l Over (all-used a b j) (append-nil (t ++
 abbrev pub picked : Controller → List ℕ → ℕ → ℕ → List ℕ → Bool → Bool → Stream
 picked l bytes to-come n text w q = cond w (over l bytes text 27) (cond q (over l bytes text 25) (stream l (Records to-come) (12 * n) text))
 
-abbrev pub told : ℕ → List ℕ → ℕ → Printed → Stream
+abbrev pub told : ℕ → List ℕ → ℕ → RecordsPrinted → Stream
 told t bytes n p = picked (p .left) bytes (t - n) n (p .text) (p .wrong) (past t n bytes)
 
-pub as-told : (l : Controller) (t : ℕ) (bytes : List ℕ) (n : ℕ) (p : Printed) → wholeRecords t bytes ≡ n → lines n bytes l ≡ p → recordsOf l t bytes ≡ told t bytes n p
+pub as-told : (l : Controller) (t : ℕ) (bytes : List ℕ) (n : ℕ) (p : RecordsPrinted) → wholeRecords t bytes ≡ n → lines n bytes l ≡ p → recordsOf l t bytes ≡ told t bytes n p
 as-told l t bytes n p e f = ap (λ (k : ℕ). told t bytes k (lines k bytes l)) e ∙ ap (told t bytes n) f
 
 -- m records behind n
-told-cut : (l : Controller) (t n m : ℕ) (a b text : List ℕ) (p : Printed) → n ≤ t → 12 * n ≤ length a
+told-cut : (l : Controller) (t n m : ℕ) (a b text : List ℕ) (p : RecordsPrinted) → n ≤ t → 12 * n ≤ length a
     → afterPiece (stream l (Records (t - n)) (12 * n) text) (told (t - n) (rest n a b) m p) ≡ told t (a ++ b) (n + m) (behind text p)
 told-cut l t n m a b text p few long =
     let first = stream l (Records (t - n)) (12 * n) text in

@@ -29,7 +29,7 @@ use Rattle.playback_model.specs.Laws.{lentOn, EmptyIsLent}
 use Rattle.playback_model.specs.Demand.{KeepsDemand}
 use Rattle.playback_model.proofs.Calls.{empty-is-lent}
 use Rattle.stream_model.specs.declared.Stage.the-variants.{Opening}
-use Rattle.stream_model.specs.Stream.{Printed, recordsPrinted, said, met, lines, openedBy, streamFed, transcript}
+use Rattle.stream_model.specs.Stream.{RecordsPrinted, recordsPrinted, said, met, lines, openedBy, streamFed, transcript}
 use Rattle.stream_model.specs.Laws.{SoundIsPrinted, MarkIsTold, tableSound, TableIsTold, LengthIsTold, spoken}
 use Rattle.stream_model.specs.Done.{readIn, saidIn, lastLine, EveryInput, ProgramKeepsDemand}
 use Rattle.stream_model.proofs.Counts.{within-is}
@@ -40,12 +40,12 @@ use Rattle.stream_model.proofs.Whole.{made, none-wrong}
 use Rattle.stream_model.proofs.Lengths.{table-is-told, length-is-told}
 
 -- ── Records, by the calls that they name ──────────────────────────────────────────────────────────────────────
-left-by : (ks : List Call) (p : Printed) → made ks p .left ≡ final rings (p .left) (lentOn ks (p .left))
+left-by : (ks : List Call) (p : RecordsPrinted) → made ks p .left ≡ final rings (p .left) (lentOn ks (p .left))
 unfolding lentOn final
 left-by [] p = refl
 left-by (k ∷ ks) p = left-by ks (said k p)
 
-met-if : (w : Bool) (p : Printed) → p .wrong ≡ false → cond w (met p) p ≡ recordsPrinted (p .left) (p .text) w
+met-if : (w : Bool) (p : RecordsPrinted) → p .wrong ≡ false → cond w (met p) p ≡ recordsPrinted (p .left) (p .text) w
 met-if true p e = refl
 met-if false p e = ap (recordsPrinted (p .left) (p .text)) e
 
@@ -55,7 +55,7 @@ lines-are n bytes l =
     let ps = namedFrom n bytes 0 in
     let ks = callsBefore ps in
     let p = recordsPrinted l [] false in
-    each-is-made Printed said met n bytes 0 p
+    each-is-made RecordsPrinted said met n bytes 0 p
     ∙ met-if (anyWrong ps) (made ks p) (none-wrong ks p refl)
     ∙ ap (λ (c : Controller). recordsPrinted c (spoken ks l) (anyWrong ps)) (left-by ks p)
 
@@ -103,7 +103,7 @@ every-left l file = go (beginsWith mark file) refl (tableSound file) refl
         let p = lines k (bytes file) l in
         ap (λ (h : Head). openedBy l file h .left) (sound-head file e (sound-of file f))
         ∙ picked-left (p .left) (bytes file) (r - k) k (p .text) (p .wrong) (past r k (bytes file))
-        ∙ ap (λ (p : Printed). p .left) (lines-read file l e f)
+        ∙ ap (λ (p : RecordsPrinted). p .left) (lines-read file l e f)
 
 pub program-keeps-demand : ProgramKeepsDemand
 unfolding ProgramKeepsDemand Demand EmptyIsLent
@@ -136,12 +136,12 @@ every-input l file = go (beginsWith mark file) refl (tableSound file) refl
         let size : wholeRecords (total file) (bytes file) ≡ total file = omega (arith, within-is (total file) (bytes file), eqb-true (sectionPlace file (sections file)) (length file) g, length-drop (headLength file) file) in
         sound-is-printed l file (rw (e, right-by-length file t ∙ g))
         ∙ ap (λ (n : ℕ). let p = lines n (bytes file) l in p .text ++ cond (p .wrong) (lineOf 0 27) []) (sym size)
-        ∙ ap (λ (p : Printed). p .text ++ cond (p .wrong) (lineOf 0 27) []) (lines-read file l e f)
+        ∙ ap (λ (p : RecordsPrinted). p .text ++ cond (p .wrong) (lineOf 0 27) []) (lines-read file l e f)
         ∙ ap (λ (x : List ℕ). spoken (saidIn file) l ++ x) (rw (e, f, g))
     behind false g e f =
         let w = anyWrong (readIn file) in
         length-is-told l file (rw (e, right-by-length file (sound-of file f) ∙ g)) f .1
-        ∙ ap (λ (p : Printed). p .text ++ lineOf 0 (cond (p .wrong) 27 25)) (lines-read file l e f)
+        ∙ ap (λ (p : RecordsPrinted). p .text ++ lineOf 0 (cond (p .wrong) 27 25)) (lines-read file l e f)
         ∙ ap (λ (x : List ℕ). spoken (saidIn file) l ++ x) (rw (e, f, g) (by-wrong w))
 
     go : (a : Bool) → beginsWith mark file ≡ a → (b : Bool) → tableSound file ≡ b → Claim

@@ -19,7 +19,7 @@ use Rattle.trace_model.proofs.Heads.{mark-cut, mark-wrong, right-within}
 use Rattle.record_model.specs.Record.{wholeRecords}
 use Rattle.stream_model.specs.declared.Stage.{Stage}
 use Rattle.stream_model.specs.declared.Stage.the-variants.{Opening, Records, Over}
-use Rattle.stream_model.specs.Stream.{Printed, lines, Stream, stream, recordsOf, openedBy, streamFed, endNumber, endText, transcript}
+use Rattle.stream_model.specs.Stream.{RecordsPrinted, lines, Stream, stream, recordsOf, openedBy, streamFed, endNumber, endText, transcript}
 use Rattle.stream_model.specs.Laws.{afterPiece, CutAnywhere, fedPieces, AnyPieces, SoundIsPrinted, MarkIsTold}
 use Rattle.stream_model.proofs.Counts.{within-is, within-long}
 use Rattle.stream_model.proofs.Cutting.{past, picked, as-told, cut-anywhere}
@@ -112,7 +112,7 @@ closed l bytes k n text true rest e = append-nil (text ++ lineOf 0 27)
 closed l bytes k n text false rest e = ap (λ (k : ℕ). text ++ endText (Records k) 0) e
 
 -- lines, and at a wrong record 27
-abbrev pub reported : Printed → List ℕ
+abbrev pub reported : RecordsPrinted → List ℕ
 reported p = p .text ++ cond (p .wrong) (lineOf 0 27) []
 
 -- a right head, and behind it its records

@@ -16,7 +16,7 @@ use Rattle.letters.specs.Forms.{formOf}
 use Rattle.lines.proofs.Choices.{chosen, passed}
 use Rattle.little_endian.specs.Numbers.{twoAt, fourAt}
 use Rattle.record_model.specs.Record.{Record, rec, namedIn, recordAt, onward, eachRecord}
-use Rattle.stream_model.specs.Stream.{Printed, recordsPrinted, said, met, lines}
+use Rattle.stream_model.specs.Stream.{RecordsPrinted, recordsPrinted, said, met, lines}
 use Rattle.stream_model.proofs.Prefix.{two-more, four-more}
 
 -- ── A record ──────────────────────────────────────────────────────────────────────────────────────────────────
@@ -72,17 +72,17 @@ module _ {A : Type 0} (make : Call → A → A) (stop : A → A) where
     each-carried zero i bytes x = refl
     each-carried (suc n) i bytes x = onward-carried (recordAt bytes i) x (eachRecord make stop n bytes (suc i)) (each-carried n (suc i) bytes)
 
--- ── Printed ───────────────────────────────────────────────────────────────────────────────────────────────────
+-- ── Records printed ───────────────────────────────────────────────────────────────────────────────────────────
 -- what goes on behind some records, unless one was wrong
-abbrev onto : Printed → (Printed → Printed) → Printed
+abbrev onto : RecordsPrinted → (RecordsPrinted → RecordsPrinted) → RecordsPrinted
 onto p go = cond (p .wrong) p (go p)
 
-onward-onto : (x : Parsed) (p : Printed) (whole first go : Printed → Printed) → ((q : Printed) → q .wrong ≡ false → whole q ≡ onto (first q) go)
+onward-onto : (x : Parsed) (p : RecordsPrinted) (whole first go : RecordsPrinted → RecordsPrinted) → ((q : RecordsPrinted) → q .wrong ≡ false → whole q ≡ onto (first q) go)
     → onward said met x p whole ≡ onto (onward said met x p first) go
 onward-onto (Named k) p whole first go h = h (said k p) refl
 onward-onto Skipped p whole first go h = refl
 
-two-runs : (n k i : ℕ) (bytes : List ℕ) (p : Printed) → p .wrong ≡ false → eachRecord said met (n + k) bytes i p ≡ onto (eachRecord said met n bytes i p) (eachRecord said met k bytes (n + i))
+two-runs : (n k i : ℕ) (bytes : List ℕ) (p : RecordsPrinted) → p .wrong ≡ false → eachRecord said met (n + k) bytes i p ≡ onto (eachRecord said met n bytes i p) (eachRecord said met k bytes (n + i))
 unfolding eachRecord
 two-runs zero k i bytes p e =
     let m : 0 + k ≡ k = omega arith in
@@ -96,15 +96,15 @@ two-runs (suc n) k i bytes p e =
     (λ q z. two-runs n k (suc i) bytes q z ∙ ap (λ (j : ℕ). onto (eachRecord said met n bytes (suc i) q) (eachRecord said met k bytes j)) j)
 
 -- text that was printed before stands before, and changes nothing else
-abbrev pub behind : List ℕ → Printed → Printed
+abbrev pub behind : List ℕ → RecordsPrinted → RecordsPrinted
 behind t p = recordsPrinted (p .left) (t ++ p .text) (p .wrong)
 
-text-behind : (n : ℕ) (bytes : List ℕ) (p : Printed) → p .wrong ≡ false → eachRecord said met n bytes 0 p ≡ behind (p .text) (lines n bytes (p .left))
+text-behind : (n : ℕ) (bytes : List ℕ) (p : RecordsPrinted) → p .wrong ≡ false → eachRecord said met n bytes 0 p ≡ behind (p .text) (lines n bytes (p .left))
 text-behind n bytes p e =
     ap (eachRecord said met n bytes 0) (λ j. recordsPrinted (p .left) (sym (append-nil (p .text)) j) (e j))
     ∙ sym (each-carried said met (behind (p .text)) makes (λ x. refl) n 0 bytes (recordsPrinted (p .left) [] false))
   where
-    makes : (k : Call) (x : Printed) → behind (p .text) (said k x) ≡ said k (behind (p .text) x)
+    makes : (k : Call) (x : RecordsPrinted) → behind (p .text) (said k x) ≡ said k (behind (p .text) x)
     makes k x = let s = step rings (x .left) k in ap (λ (t : List ℕ). recordsPrinted (s .next) t false) (sym (append-assoc (p .text) (x .text) (lineOf (s .answer .value) (s .answer .number))))
 
 -- n records of the first piece, and m behind them

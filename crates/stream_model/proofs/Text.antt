@@ -14,7 +14,7 @@ use Rattle.print.specs.Line.{lineOf}
 use Rattle.record_model.specs.Record.{recordAt, eachRecord, wholeRecords}
 use Rattle.record_model.proofs.Each.{goes}
 use Rattle.stream_model.specs.declared.Stage.the-variants.{Records}
-use Rattle.stream_model.specs.Stream.{Printed, recordsPrinted, said, met, lines, Stream, stream, over, recordsOf}
+use Rattle.stream_model.specs.Stream.{RecordsPrinted, recordsPrinted, said, met, lines, Stream, stream, over, recordsOf}
 
 -- one record more, and its line behind those before
 pub next : (n i : ℕ) (bytes : List ℕ) (l : Controller) (k : Call) (x : Step Controller) (t text out : List ℕ) → i < n → recordAt bytes i ≡ Named k → x ≡ step rings l k
@@ -22,16 +22,16 @@ pub next : (n i : ℕ) (bytes : List ℕ) (l : Controller) (k : Call) (x : Step 
     → eachRecord said met (n - (i + 1)) bytes (i + 1) (recordsPrinted (x .next) (take (12 * (i + 1)) out) false) ≡ eachRecord said met (n - i) bytes i (recordsPrinted l t false)
 next n i bytes l k x t text out h e f g p =
     let j : 12 * (i + 1) ≡ 12 * i + 12 = omega arith in
-    let rest : Controller → List ℕ → Printed = λ c u. eachRecord said met (n - (i + 1)) bytes (i + 1) (recordsPrinted c u false) in
+    let rest : Controller → List ℕ → RecordsPrinted = λ c u. eachRecord said met (n - (i + 1)) bytes (i + 1) (recordsPrinted c u false) in
     ap (λ (m : ℕ). rest (x .next) (take m out)) j ∙ ap (rest (x .next)) (p ∙ ap (λ (u : List ℕ). t ++ u) g)
     ∙ ap (λ (y : Step Controller). rest (y .next) (t ++ lineOf (y .answer .value) (y .answer .number))) f ∙ goes said met n i bytes (recordsPrinted l t false) k h e
 
 -- ── The records of a piece, by what its lines tell ────────────────────────────────────────────────────────────
-module _ (l : Controller) (m : ℕ) (bytes : List ℕ) (n : ℕ) (p : Printed) (is : n ≡ wholeRecords m bytes) (are : p ≡ lines n bytes l) where
+module _ (l : Controller) (m : ℕ) (bytes : List ℕ) (n : ℕ) (p : RecordsPrinted) (is : n ≡ wholeRecords m bytes) (are : p ≡ lines n bytes l) where
   abbrev past : Bool
   past = eqb n m && ltb (12 * n) (length bytes)
 
-  abbrev choice : ℕ → Printed → Stream
+  abbrev choice : ℕ → RecordsPrinted → Stream
   choice k q = cond (q .wrong) (over (q .left) bytes (q .text) 27) (cond (eqb k m && ltb (12 * k) (length bytes)) (over (q .left) bytes (q .text) 25) (stream (q .left) (Records (m - k)) (12 * k) (q .text)))
 
   chosen : choice n p ≡ recordsOf l m bytes

@@ -12,15 +12,15 @@ use Rattle.record_model.specs.Writer.{sectionBytes, traceOf}
 use Rattle.record_model.proofs.Writing.{section-read, section-length}
 use Rattle.record_model.proofs.Joined.{every-joined, records-behind, head-right}
 use Rattle.record_model.proofs.Made.{each-named}
-use Rattle.stream_model.specs.Stream.{Printed, recordsPrinted, said, met, lines}
+use Rattle.stream_model.specs.Stream.{RecordsPrinted, recordsPrinted, said, met, lines}
 use Rattle.stream_model.specs.Laws.{WrittenIsPrinted}
 use Rattle.stream_model.proofs.Inputs.{reported, head-and-records}
 
 -- calls one after another, from where some were made
-abbrev pub made : List Call → Printed → Printed
+abbrev pub made : List Call → RecordsPrinted → RecordsPrinted
 made ks p = foldl (λ p k. said k p) p ks
 
-pub none-wrong : (ks : List Call) (p : Printed) → p .wrong ≡ false → made ks p .wrong ≡ false
+pub none-wrong : (ks : List Call) (p : RecordsPrinted) → p .wrong ≡ false → made ks p .wrong ≡ false
 none-wrong [] p e = e
 none-wrong (k ∷ ks) p e = none-wrong ks (said k p) refl
 

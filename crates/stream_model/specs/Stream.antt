@@ -19,24 +19,24 @@ use Rattle.stream_model.specs.declared.Stage.the-variants.{Opening, Reco
 
 -- ── Records, a line for each ──────────────────────────────────────────────────────────────────────────────────
 -- the controller after some records, what was printed, and whether a wrong one was met
-pub record Printed : Type 0 where
+pub record RecordsPrinted : Type 0 where
   pub left : Controller
   pub text : List ℕ
   pub wrong : Bool
 
-abbrev pub recordsPrinted : Controller → List ℕ → Bool → Printed
+abbrev pub recordsPrinted : Controller → List ℕ → Bool → RecordsPrinted
 recordsPrinted l t w = record { left = l; text = t; wrong = w }
 
 -- `replay.program`: the call of a record is made, and its line is printed as in a session
-abbrev pub said : Call → Printed → Printed
+abbrev pub said : Call → RecordsPrinted → RecordsPrinted
 said k p = let s = step rings (p .left) k in recordsPrinted (s .next) (p .text ++ lineOf (s .answer .value) (s .answer .number)) false
 
 -- a wrong record is met
-abbrev pub met : Printed → Printed
+abbrev pub met : RecordsPrinted → RecordsPrinted
 met p = recordsPrinted (p .left) (p .text) true
 
 -- the first n records
-abbrev pub lines : ℕ → List ℕ → Controller → Printed
+abbrev pub lines : ℕ → List ℕ → Controller → RecordsPrinted
 lines n bytes l = eachRecord said met n bytes 0 (recordsPrinted l [] false)
 
 -- ── A piece ───────────────────────────────────────────────────────────────────────────────────────────────────

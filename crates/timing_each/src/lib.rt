@@ -2,7 +2,10 @@
 // local of the exported function, which can take no reference that leads to an enum.
 ghost use mathlib.Core.Path.{_≡_};
 ghost use mathlib.Core.List.{[]};
-ghost use Prim.Native.Nat.{_*_, _≤_, _%_, _^_};
+ghost use Prim.Native.Nat.{_*_};
+ghost use Prim.Native.Nat.{_≤_};
+ghost use Prim.Native.Nat.{_%_};
+ghost use Prim.Native.Nat.{_^_};
 ghost use lib.ListN.{length};
 ghost use Rattle.model.specs.Engine.{step};
 ghost use Rattle.model.specs.Rings.{rings};

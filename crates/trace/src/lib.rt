@@ -1,7 +1,9 @@
 // Trace files: the look-up of a section, as a part of the lent bytes (`trace.section`, `trace.refused`), and what the
 // first bytes tell a reader that has no more yet. It knows no record.
 ghost use mathlib.Core.Path.{_≡_};
-ghost use Prim.Native.Nat.{_+_, _*_, _≤_};
+ghost use Prim.Native.Nat.{_+_};
+ghost use Prim.Native.Nat.{_*_};
+ghost use Prim.Native.Nat.{_≤_};
 ghost use lib.ListN.{length};
 ghost use Rattle.trace_model.specs.Format.{sections, lookNumber, sectionStart, section};
 ghost use Rattle.trace_model.specs.Head.{tableTold, countTold, headOf};

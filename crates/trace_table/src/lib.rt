@@ -1,7 +1,10 @@
 // Mark and table of a trace file (`trace.form`): whether they are right, and what an entry says. It knows the file's
 // bytes, and no record. Layers: the caller has to know that an entry lies inside the file.
 ghost use mathlib.Core.Path.{_≡_};
-ghost use Prim.Native.Nat.{_+_, _*_, _<_, _≤_};
+ghost use Prim.Native.Nat.{_+_};
+ghost use Prim.Native.Nat.{_*_};
+ghost use Prim.Native.Nat.{_<_};
+ghost use Prim.Native.Nat.{_≤_};
 ghost use lib.ListN.{length};
 ghost use Rattle.trace_model.specs.Format.{mark, beginsWith, sections, startAt, countAt, sectionPlace, startsRight, tableRight, fault};
 

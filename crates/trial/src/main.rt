@@ -1,6 +1,8 @@
 // A program for tests: a session (`session.lines`) with lines that set up another bank and lines of offload bursts, so
 // that the model is run at every capacity and watermark, on stores with old contents, and with outputs of every length.
-ghost use Prim.Native.Nat.{_+_, _*_, _≤_};
+ghost use Prim.Native.Nat.{_+_};
+ghost use Prim.Native.Nat.{_*_};
+ghost use Prim.Native.Nat.{_≤_};
 ghost use lib.ListN.{length};
 use answer::Out;
 use bank::Answer;

@@ -2,7 +2,8 @@
 // register, and whether an open burst holds it.
 ghost use mathlib.Core.Path.{_≡_};
 ghost use mathlib.Core.Bool.{cond};
-ghost use Prim.Native.Nat.{_%_, _^_};
+ghost use Prim.Native.Nat.{_%_};
+ghost use Prim.Native.Nat.{_^_};
 ghost use lib.Dec.{eqb};
 ghost use Rattle.registers.specs.declared.Register.the-variants.{Scratch, IrqMask, Ops, IbiConfig, DevChar, OffloadCmd, OffloadSdo};
 ghost use Rattle.bank.specs.Bits.{wordIf};

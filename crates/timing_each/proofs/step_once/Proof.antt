@@ -49,7 +49,7 @@ use Rattle.model.specs.declared.Call.{Call}
 use Rattle.model.specs.Engine.{step as stepOf}
 use Rattle.model.specs.Rings.{rings}
 use Rattle.answer.specs.Given.{controller}
-use Rattle.inplace.specs.Left.{left}
+use Rattle.inplace.specs.Left.{leftInPlace}
 use Rattle.bank.proofs.Bank as B
 use Rattle.bank.proofs.Bank.Laws as B′
 use Rattle.model.proofs.Call as K
@@ -145,7 +145,7 @@ module _ {M : Type 1} (𝓤 : URA M) (H : Heap 𝓤) (A : Atoms 𝓤) (W : Given
   )
 
   abbrev Said : Answer → Bank → List ℕ → List ℕ → Type 0
-  Said r z zs us = left z r zs us ≡ stepOf rings (controller h ys ts) k
+  Said r z zs us = leftInPlace z r zs us ≡ stepOf rings (controller h ys ts) k
 
   -- the tokens of the store and of the output, and what their `&mut`s own
   abbrev Tokens : Item 𝓤

@@ -98,7 +98,7 @@ loop-again c =
       search (fault-kept, made),
       search needs,
       search needs,
-      search (line-done, made, k .c .given .1, k .before .before .at .ensures, taken .loop-test .taken, line .line .ensures, put .put .ensures, inv .8),
+      line-done _ _ _ _ _ _ _ _ made _ _ _ _ _ _ _ _ (taken .loop-test .taken) (k .before .before .at .ensures) (k .c .given .1) (line .line .ensures) (put .put .ensures) (inv .8),
     )
 
 mul-t32 : tie.Need-mul-t32 Inv-loop μ-loop

@@ -1,8 +1,9 @@
 -- Contracts of calls: the memory that is lent to a call, as one record, when the call begins and when it ends.
-use mathlib.Core.List.{List}
+use mathlib.Core.List.{List, []}
 use Prim.Native.Nat.{ℕ}
 use denote.Ref.{RefT, now}
 use denote.Triple.Both.{Both}
+use Rattle.bank.specs.declared.Bank.{Bank}
 use Rattle.bank.specs.declared.State.{State}
 use Rattle.bank.specs.declared.Heads.{Heads}
 use Rattle.model.specs.View.{Tables, tables}
@@ -29,6 +30,20 @@ lent f c p s o = memory (f .entry) (c .entry) (p .entry) (s .entry) (o .entry)
 
 abbrev pub left : Param → Param → Param → Param → Param → Memory
 left f c p s o = memory (f .exit) (c .exit) (p .exit) (s .exit) (o .exit)
+
+-- the same where no output is lent
+abbrev pub lentWithout : Param → Param → Param → Param → Memory
+lentWithout f c p s = record { tables = tables (now (f .entry)) (now (c .entry)) (now (p .entry)) []; store = now (s .entry) }
+
+abbrev pub leftWithout : Param → Param → Param → Param → Memory
+leftWithout f c p s = record { tables = tables (now (f .exit)) (now (c .exit)) (now (p .exit)) []; store = now (s .exit) }
+
+-- a bank with the store and the output that are lent to it, or with no output, as a controller
+abbrev pub bankLent : Bank → Param → Param → Controller
+bankLent b s o = controller b (now (s .entry)) (now (o .entry))
+
+abbrev pub bankLentStore : Bank → Param → Controller
+bankLentStore b s = controller b (now (s .entry)) []
 
 -- a state, its heads and lent memory as a controller; what code gives with the memory that it left, as a step
 abbrev pub controllerOf : State → Heads → Memory → Controller

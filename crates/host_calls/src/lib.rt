@@ -3,12 +3,13 @@ ghost use mathlib.Core.Path.{_≡_};
 ghost use mathlib.Core.Bool.{true};
 ghost use lib.ListN.{length};
 ghost use Rattle.bank.specs.Formed.{wellFormed};
-ghost use Rattle.model.specs.View.{tables};
 ghost use Rattle.model.specs.Engine.{step};
 ghost use Rattle.model.specs.Rings.{rings};
-ghost use Rattle.answer.specs.Given.{bankWith, controller};
+ghost use Rattle.answer.specs.Given.{bankWith};
+ghost use Rattle.answer.specs.Memory.{memory, lent, controllerOf};
 ghost use Rattle.image_model.specs.Image.{size, encoded, kept, sized};
-ghost use Rattle.host_model.specs.Host.{setUpIn, callOf, hosted, stepIn, packedOf};
+ghost use Rattle.host_model.specs.Host.{setUpIn, callOf, hosted};
+ghost use Rattle.host_parts.specs.Lent.{keptLent, keptLeft, lentAll, leftAll, fresh, gave, packed, stepOn};
 use bank::Heads;
 use bank::Sizes;
 use bank::State;
@@ -26,7 +27,7 @@ pub fn set_up(
     id: u32,
 ) -> u32
     requires { ⌜ (length (now image) ≡ size) × (sized (kept (now image) (now flags) (now commands) (now payloads)) ≡ true) ⌝ }
-    ensures { λ n. ⌜ (let h = setUpIn (kept (now (image .entry)) (now (flags .entry)) (now (commands .entry)) (now (payloads .entry))) caps marks id in (n ≡ h .number) × (kept (now (image .exit)) (now (flags .exit)) (now (commands .exit)) (now (payloads .exit)) ≡ h .kept)) ⌝ }
+    ensures { λ n. ⌜ fresh n (keptLeft image flags commands payloads) ≡ setUpIn (keptLent image flags commands payloads) caps marks id ⌝ }
 {
     let r = setup::set_up(caps, marks, id);
     let number = r.answer.number;
@@ -68,8 +69,8 @@ fn make(
     output: &mut [u32],
     c: Call,
 ) -> u64
-    requires { ⌜ (length (now image) ≡ size) × (wellFormed (bankWith s h (tables (now flags) (now commands) (now payloads) (now output))) ≡ true) ⌝ }
-    ensures { λ r. ⌜ (let x = hosted (step rings (controller (bankWith s h (tables (now (flags .entry)) (now (commands .entry)) (now (payloads .entry)) (now (output .entry)))) (now (store .entry)) (now (output .entry))) c) in (r ≡ packedOf (x .answer)) × (kept (now (image .exit)) (now (flags .exit)) (now (commands .exit)) (now (payloads .exit)) ≡ x .kept) × (now (store .exit) ≡ x .store) × (now (output .exit) ≡ x .output)) ⌝ }
+    requires { ⌜ (length (now image) ≡ size) × (wellFormed (bankWith s h (memory flags commands payloads store output .tables)) ≡ true) ⌝ }
+    ensures { λ r. ⌜ gave r (leftAll image flags commands payloads store output) ≡ packed (hosted (step rings (controllerOf s h (lent flags commands payloads store output)) c)) ⌝ }
 {
     let fault = faults::length_fault(s.caps, store.len());
     let y = serve::step_parts(s, h, flags, commands, payloads, store, output, fault, c);
@@ -91,7 +92,7 @@ pub fn step(
     second: u32,
 ) -> u64
     requires { ⌜ (length (now image) ≡ size) × (sized (kept (now image) (now flags) (now commands) (now payloads)) ≡ true) × (encoded (now image) ≡ true) ⌝ }
-    ensures { λ r. ⌜ (let h = stepIn (callOf letter offset first second) (kept (now (image .entry)) (now (flags .entry)) (now (commands .entry)) (now (payloads .entry))) (now (store .entry)) (now (output .entry)) in (r ≡ packedOf (h .answer)) × (kept (now (image .exit)) (now (flags .exit)) (now (commands .exit)) (now (payloads .exit)) ≡ h .kept) × (now (store .exit) ≡ h .store) × (now (output .exit) ≡ h .output)) ⌝ }
+    ensures { λ r. ⌜ gave r (leftAll image flags commands payloads store output) ≡ stepOn (callOf letter offset first second) (lentAll image flags commands payloads store output) ⌝ }
 {
     let s = image_fields::state_in(image);
     let h = image_fields::heads_in(image);

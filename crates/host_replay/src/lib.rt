@@ -2,16 +2,14 @@
 // answered by the same loop: on a bank that is not well formed, on which each record is answered 21. A layer, no interface.
 ghost use mathlib.Core.Path.{_≡_};
 ghost use mathlib.Core.Bool.{true, false};
-ghost use mathlib.Core.List.{List, []};
+ghost use mathlib.Core.List.{List};
 ghost use Prim.Native.Nat.{ℕ};
 ghost use lib.ListN.{length};
 ghost use Rattle.bank.specs.Formed.{wellFormed};
-ghost use Rattle.model.specs.View.{tables};
-ghost use Rattle.answer.specs.Given.{bankWith, controller};
+ghost use Rattle.answer.specs.Memory.{lentWithout, leftWithout, controllerOf};
 ghost use Rattle.playback_model.specs.Replay.{replayOf};
-ghost use Rattle.replayed.specs.Given.{replayReached};
-ghost use Rattle.image_model.specs.Image.{kept};
-ghost use Rattle.host_model.specs.Host.{replayIn};
+ghost use Rattle.player.specs.Given.{reachedWith};
+ghost use Rattle.host_parts.specs.Lent.{lentAll, leftAll, gave, replayOn};
 use bank::Answer;
 use bank::Heads;
 use bank::State;
@@ -53,7 +51,7 @@ fn on_parts(
     i: u32,
     limit: usize,
 ) -> Reached
-    ensures { λ r. ⌜ replayReached r (tables (now (flags .exit)) (now (commands .exit)) (now (payloads .exit)) []) (now (store .exit)) ≡ replayOf (now (file .entry)) i limit (controller (bankWith s h (tables (now (flags .entry)) (now (commands .entry)) (now (payloads .entry)) [])) (now (store .entry)) []) ⌝ }
+    ensures { λ r. ⌜ reachedWith r (leftWithout flags commands payloads store) ≡ replayOf (now (file .entry)) i limit (controllerOf s h (lentWithout flags commands payloads store)) ⌝ }
 {
     let number = trace::look_up(file, i);
     if number != 0 {
@@ -93,7 +91,7 @@ pub fn replay(
     limit: usize,
     told: &mut [u32],
 ) -> u32
-    ensures { λ n. ⌜ (let h = replayIn (now (file .entry)) i limit (kept (now (image .entry)) (now (flags .entry)) (now (commands .entry)) (now (payloads .entry))) (now (store .entry)) (now (told .entry)) in (n ≡ h .number) × (kept (now (image .exit)) (now (flags .exit)) (now (commands .exit)) (now (payloads .exit)) ≡ h .kept) × (now (store .exit) ≡ h .store) × (now (told .exit) ≡ h .told)) ⌝ }
+    ensures { λ n. ⌜ gave n (leftAll image flags commands payloads store told) ≡ replayOn (now (file .entry)) i limit (lentAll image flags commands payloads store told) ⌝ }
 {
     let ws = words_of(image);
     let whole = host_parts::is_sized(image, flags, commands, payloads);

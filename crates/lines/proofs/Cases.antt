@@ -22,11 +22,14 @@ pub taken : map lineNames (
     ∷ (0x41 ∷ [])
     ∷ (0x57 ∷ 0x20 ∷ 0x34 ∷ 0x20 ∷ 0x30 ∷ [])
     ∷ [])
-    ≡ Named (Write 0x40 0) ∷ Named (Write 0x180 0x1102) ∷ Named (Write 0xdc 0xa5c30000) ∷ Named (Write 0xd4 0x210) ∷ Named Start ∷ Named Send ∷ Named (Finish 0) ∷ Named (Read 0xd8) ∷ Named (Receive 0xff) ∷ Named (Interrupt 8 0x5a) ∷ Named (Request 0xffffffff 1) ∷ Named Take ∷ Named (Write 4 0) ∷ []
+    ≡ Named (Write 0x40 0) ∷ Named (Write 0x180 0x1102) ∷ Named (Write 0xdc 0xa5c30000) ∷ Named (Write 0xd4 0x210)
+    ∷ Named Start ∷ Named Send ∷ Named (Finish 0) ∷ Named (Read 0xd8) ∷ Named (Receive 0xff) ∷ Named (Interrupt 8 0x5a) ∷ Named (Request 0xffffffff 1) ∷ Named Take ∷ Named (Write 4 0) ∷ []
 unfolding forms formWith before behind allHex
 taken = refl
 
--- one row each: no byte; a lower-case letter; a space or a carriage return after the letter or before it; a field left out or bare; two spaces; a tab; a trailing space; five digits; a field too many; no hex digit; the second field left out or bare or of nine digits; two spaces before it; three digits; one word; a field where there is none; the bytes 0 and 1; two letters; no space; another letter
+-- one row each: no byte; a lower-case letter; a space or a carriage return after the letter or before it; a field left out or bare; two spaces; a
+-- tab; a trailing space; five digits; a field too many; no hex digit; the second field left out or bare or of nine digits; two spaces before it;
+-- three digits; one word; a field where there is none; the bytes 0 and 1; two letters; no space; another letter
 pub skipped : map lineNames (
     ([])
     ∷ (0x73 ∷ [])

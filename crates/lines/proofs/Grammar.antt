@@ -7,7 +7,7 @@ use mathlib.Core.Bool.{Bool, true, false, cond, not, _&&_}
 use mathlib.Core.List.{List, [], _∷_, foldl}
 use mathlib.Core.Option.{Option, none, some}
 use lib.Dec.{eqb, ltb, leb}
-use lib.ListN.{length, getD}
+use lib.ListN.{length, getD, drop}
 use borrow.Author.Tests.{lt-ltb, le-ltb, le-leb, lt-leb, ltb-true, ltb-false, leb-true, leb-false, eqb-true, eqb-false, ne-eqb}
 use Rattle.model.specs.declared.Call.{Call}
 use Rattle.model.specs.declared.Call.the-variants.{Read, Write, Start, Send, Receive, Finish, Interrupt, Request, Take}
@@ -197,9 +197,13 @@ all-bounded : All Bounded forms
 unfolding forms
 all-bounded = omega arith
 
+last-read : All IsRead (drop 4 forms)
+unfolding forms
+last-read = (one-more _ Receive 1 0 0 (λ v. refl), (one-more _ Finish 1 0 0 (λ v. refl), (two-more _ Interrupt 1 1 0 0 (λ v w. refl), (two-more _ Request 7 7 0 0 (λ v w. refl), (ends _ Take 0 0 refl, tt)))))
+
 all-read : All IsRead forms
 unfolding forms
-all-read = (two-more _ Write 3 7 0 0 (λ o v. refl), (one-more _ Read 3 0 0 (λ o. refl), (ends _ Start 0 0 refl, (ends _ Send 0 0 refl, (one-more _ Receive 1 0 0 (λ v. refl), (one-more _ Finish 1 0 0 (λ v. refl), (two-more _ Interrupt 1 1 0 0 (λ v w. refl), (two-more _ Request 7 7 0 0 (λ v w. refl), (ends _ Take 0 0 refl, tt)))))))))
+all-read = (two-more _ Write 3 7 0 0 (λ o v. refl), (one-more _ Read 3 0 0 (λ o. refl), (ends _ Start 0 0 refl, (ends _ Send 0 0 refl, last-read))))
 
 -- ── A line ────────────────────────────────────────────────────────────────────────────────────────────────────
 -- a letter, and what stands up to the first blank behind it

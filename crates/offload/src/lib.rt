@@ -8,12 +8,13 @@ ghost use lib.ListN.{length};
 ghost use Rattle.number.specs.Names as number;
 ghost use Rattle.bank.specs.Bursts.{bursting};
 ghost use Rattle.bank.specs.Formed.{openOk};
-ghost use Rattle.model.specs.View.{Tables, tables};
+ghost use Rattle.model.specs.View.{Tables};
 ghost use Rattle.model.specs.Decision.{unchanged, _withNumber_};
 ghost use Rattle.model.specs.Laws.{isAccess};
 ghost use Rattle.model.specs.Bursts.{misfit, decide};
 ghost use Rattle.effect.specs.Effects.{effectOf, verdict};
 ghost use Rattle.effect.specs.Seen.{Fronts, seen};
+ghost use Rattle.offload.specs.Lent.{tablesLent};
 use bank::State;
 use effect::Effect;
 use model::Call;
@@ -37,7 +38,7 @@ pub fn event(
     call: Call,
 ) -> Effect
     requires { ⌜ (bursting (st .control) ≡ true) × (openOk (st .control) (st .regs) (st .phase) (now commands) ≡ true) ⌝ }
-    ensures { λ e. ⌜ ((o : List ℕ) (f : Fronts) → length o ≡ len → isAccess call ≡ false → misfit call ≡ false → (let t = tables (now (flags .entry)) (now (commands .entry)) (now (payloads .entry)) o in effectOf e t ≡ verdict (λ v. decide v call) (seen st t f))) ⌝ }
+    ensures { λ e. ⌜ ((o : List ℕ) (f : Fronts) → length o ≡ len → isAccess call ≡ false → misfit call ≡ false → (let t = tablesLent flags commands payloads o in effectOf e t ≡ verdict (λ v. decide v call) (seen st t f))) ⌝ }
 {
     let lacks = trigger::is_output_short(st.regs, commands, len);
     match call {

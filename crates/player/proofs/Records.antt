@@ -17,17 +17,10 @@ use Rattle.letters.specs.declared.Parsed.{Parsed}
 use Rattle.letters.specs.declared.Parsed.the-variants.{Named, Skipped}
 use Rattle.record_model.specs.Record.{recordAt, eachRecord, wholeRecords}
 use Rattle.record_model.proofs.Each.{goes, stops, ends}
-use Rattle.record_model.proofs.Kept.{same-size, same-output}
 use Rattle.playback_model.specs.Replay.{Replay, telling, replayBegun, did, wrong, played}
 
--- a call that is made keeps both lengths and what the two tests say
+-- a call that is made keeps what the two tests say
 module _ (l : Controller) (k : Call) (y : Next) (flags commands payloads output store : List ℕ) (made : given y (tables flags commands payloads output) store ≡ step rings l k) where
-  pub store-kept : (n : ℕ) → length (l .store) ≡ n → length store ≡ n
-  store-kept n e = ap (λ (x : Step Controller). length (x .next .store)) made ∙ same-size l k ∙ e
-
-  pub output-kept : (n : ℕ) → length (l .output) ≡ n → length output ≡ n
-  output-kept n e = ap (λ (x : Step Controller). length (x .next .output)) made ∙ same-output l k ∙ e
-
   pub fault-kept : (fault : ℕ) → fault ≡ faultNumber (l .bank) (length (l .store))
       → fault ≡ faultNumber (bankWith (y .state) (y .heads) (tables flags commands payloads output)) (length store)
   fault-kept fault e = e ∙ sym (kept l k) ∙ ap (λ (x : Step Controller). faultNumber (x .next .bank) (length (x .next .store))) (sym made)

@@ -9,7 +9,8 @@ ghost use Rattle.answer.specs.Memory.{memory, lent, left, controllerOf};
 ghost use Rattle.faults.specs.Faults.{faultNumber};
 ghost use Rattle.record_model.specs.Record.{eachRecord};
 ghost use Rattle.playback_model.specs.Replay.{replayBegun, did, wrong, played};
-ghost use Rattle.replayed.specs.Given.{replayReached, replayedWith};
+ghost use Rattle.replayed.specs.Given.{replayedWith};
+ghost use Rattle.player.specs.Given.{reachedWith};
 use bank::Answer;
 use bank::Bank;
 use bank::Heads;
@@ -32,7 +33,7 @@ pub fn replay_parts(
     n: usize,
 ) -> Reached
     requires { ⌜ (let m = memory flags commands payloads store output in fault ≡ faultNumber (bankWith st heads (m .tables)) (length (m .store))) × (12 * n ≤ length (now records)) ⌝ }
-    ensures { λ r. ⌜ (let m = left flags commands payloads store output in replayReached r (m .tables) (m .store) ≡ eachRecord did wrong n (now (records .entry)) 0 (replayBegun 0 (controllerOf st heads (lent flags commands payloads store output)))) ⌝ }
+    ensures { λ r. ⌜ reachedWith r (left flags commands payloads store output) ≡ eachRecord did wrong n (now (records .entry)) 0 (replayBegun 0 (controllerOf st heads (lent flags commands payloads store output))) ⌝ }
 {
     let mut s = st;
     let mut h = heads;

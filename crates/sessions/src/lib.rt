@@ -9,6 +9,7 @@ ghost use Prim.Native.Nat.{_*_};
 ghost use Prim.Native.Nat.{_≤_};
 ghost use lib.ListN.{length, take};
 ghost use Rattle.answer.specs.Given.{controller};
+ghost use Rattle.answer.specs.Memory.{bankLent};
 ghost use Rattle.letters.specs.declared.Parsed.the-variants.{Named, Skipped};
 ghost use Rattle.lines.specs.Automaton.{callRead};
 ghost use Rattle.sessions.specs.Session.{ranOf, ranTold, endedSession, fedSession, session, lineEnd, sessionFed};
@@ -26,7 +27,7 @@ pub struct Ran {
 
 // A call and its line.
 fn serve(b: Bank, store: &mut [u32], output: &mut [u32], c: Call) -> Ran
-    ensures { λ r. ⌜ ranTold r (now (store .exit)) (now (output .exit)) ≡ ranOf (controller b (now (store .entry)) (now (output .entry))) (Named c) ⌝ }
+    ensures { λ r. ⌜ ranTold r (now (store .exit)) (now (output .exit)) ≡ ranOf (bankLent b store output) (Named c) ⌝ }
 {
     let out = controller::step(b, store, output, c);
     let text = print::line(out.answer);
@@ -51,7 +52,7 @@ fn silent(b: Bank) -> Ran
 
 // The end of a line: the call that it names is made, and its answer printed.
 pub fn run(b: Bank, store: &mut [u32], output: &mut [u32], line: Reading) -> Ran
-    ensures { λ r. ⌜ ranTold r (now (store .exit)) (now (output .exit)) ≡ ranOf (controller b (now (store .entry)) (now (output .entry))) (callRead line) ⌝ }
+    ensures { λ r. ⌜ ranTold r (now (store .exit)) (now (output .exit)) ≡ ranOf (bankLent b store output) (callRead line) ⌝ }
 {
     match lines::named(line) {
         Parsed::Named(c) => serve(b, store, output, c),
@@ -75,7 +76,7 @@ pub fn end_line(
     at: usize,
 ) -> Ended
     requires { ⌜ at + 12 ≤ length (now out) ⌝ }
-    ensures { λ r. ⌜ (endedSession r (now (store .exit)) (now (output .exit)) (now (out .exit)) ≡ lineEnd (session (controller b (now (store .entry)) (now (output .entry))) line (take at (now (out .entry))))) × (r .count ≤ at + 12) ⌝ }
+    ensures { λ r. ⌜ (endedSession r (now (store .exit)) (now (output .exit)) (now (out .exit)) ≡ lineEnd (session (bankLent b store output) line (take at (now (out .entry))))) × (r .count ≤ at + 12) ⌝ }
 {
     let end = at + 12;
     let r = run(b, store, output, line);
@@ -111,7 +112,7 @@ pub fn feed(
     out: &mut [u8],
 ) -> SessionTurn
     requires { ⌜ 12 * length (now piece) ≤ length (now out) ⌝ }
-    ensures { λ r. ⌜ (fedSession r (now (store .exit)) (now (output .exit)) (now (out .exit)) ≡ sessionFed (session (controller b (now (store .entry)) (now (output .entry))) line []) (now (piece .entry))) × (r .count ≤ length (now (out .exit))) ⌝ }
+    ensures { λ r. ⌜ (fedSession r (now (store .exit)) (now (output .exit)) (now (out .exit)) ≡ sessionFed (session (bankLent b store output) line []) (now (piece .entry))) × (r .count ≤ length (now (out .exit))) ⌝ }
 {
     let mut bank = b;
     let mut reading = line;

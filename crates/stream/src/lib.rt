@@ -1,15 +1,13 @@
 // Replay of a trace that comes in pieces (`replay.program`): bytes in, a line for each record out. It knows pieces and
 // what is still to come, and no program. `out` takes the text; its bytes past the text are left free.
 ghost use mathlib.Core.Path.{_≡_};
-ghost use mathlib.Core.List.{[]};
 ghost use Prim.Native.Nat.{_+_};
 ghost use Prim.Native.Nat.{_≤_};
-ghost use Prim.Native.Nat.{_<_};
 ghost use lib.ListN.{length};
-ghost use Rattle.answer.specs.Given.{controller};
+ghost use Rattle.answer.specs.Memory.{bankLentStore};
 ghost use Rattle.trace_model.specs.Head.{headOf};
 ghost use Rattle.stream_model.specs.Stream.{openedBy, streamFed};
-ghost use Rattle.stream_end.specs.Given.{fedBy};
+ghost use Rattle.stream_end.specs.Given.{fedLeft, Within};
 use bank::Bank;
 use stream_end::StreamTurn;
 use stream_model::Stage;
@@ -18,7 +16,7 @@ use trace_model::Head;
 // The first piece: a layer, no interface.
 fn open(b: Bank, store: &mut [u32], bytes: &[u8], out: &mut [u8]) -> StreamTurn
     requires { ⌜ length (now bytes) + 12 ≤ length (now out) ⌝ }
-    ensures { λ r. ⌜ (fedBy r (now (store .exit)) (now (out .exit)) ≡ openedBy (controller b (now (store .entry)) []) (now (bytes .entry)) (headOf (now (bytes .entry)))) × (r .count ≤ length (now (out .exit))) × (r .used ≤ length (now (bytes .entry))) × (length (now (bytes .entry)) < r .used + 518) ⌝ }
+    ensures { λ r. ⌜ (fedLeft r store out ≡ openedBy (bankLentStore b store) (now (bytes .entry)) (headOf (now (bytes .entry)))) × Within 518 r bytes out ⌝ }
 {
     match trace::read_head(bytes) {
         Head::More => {
@@ -50,7 +48,7 @@ fn open(b: Bank, store: &mut [u32], bytes: &[u8], out: &mut [u8]) -> StreamTurn
 // for a line for each record, and one more; less than 518 bytes are left.
 pub fn feed(b: Bank, store: &mut [u32], stage: Stage, bytes: &[u8], out: &mut [u8]) -> StreamTurn
     requires { ⌜ length (now bytes) + 12 ≤ length (now out) ⌝ }
-    ensures { λ r. ⌜ (fedBy r (now (store .exit)) (now (out .exit)) ≡ streamFed (controller b (now (store .entry)) []) stage (now (bytes .entry))) × (r .count ≤ length (now (out .exit))) × (r .used ≤ length (now (bytes .entry))) × (length (now (bytes .entry)) < r .used + 518) ⌝ }
+    ensures { λ r. ⌜ (fedLeft r store out ≡ streamFed (bankLentStore b store) stage (now (bytes .entry))) × Within 518 r bytes out ⌝ }
 {
     match stage {
         Stage::Opening => open(b, store, bytes, out),

@@ -2,7 +2,6 @@
 // of bank and store are made once, before the records (`formed.kept`), and every call is lent an empty output
 // (`burst.replay`). `out` takes the text; its bytes past the text are left free.
 ghost use mathlib.Core.Path.{_≡_};
-ghost use mathlib.Core.Bool.{false};
 ghost use mathlib.Core.List.{List, []};
 ghost use Prim.Native.Nat.{ℕ};
 ghost use Prim.Native.Nat.{_*_};
@@ -12,9 +11,8 @@ ghost use Rattle.model.specs.View.{tables};
 ghost use Rattle.answer.specs.Given.{bankWith, controller};
 ghost use Rattle.answer.specs.Memory.{memory, lent, left, controllerOf};
 ghost use Rattle.faults.specs.Faults.{faultNumber};
-ghost use Rattle.record_model.specs.Record.{eachRecord};
-ghost use Rattle.stream_model.specs.Stream.{recordsPrinted, said, met, lines};
-ghost use Rattle.stream_lines.specs.Given.{shownParts, shownBank};
+ghost use Rattle.stream_model.specs.Stream.{lines};
+ghost use Rattle.stream_lines.specs.Given.{shownParts, shownWith, shownBank};
 use bank::Bank;
 use bank::Heads;
 use bank::State;
@@ -50,7 +48,7 @@ fn show_parts(
     out: &mut [u8],
 ) -> Lines
     requires { ⌜ (let m = memory flags commands payloads store output in fault ≡ faultNumber (bankWith st heads (m .tables)) (length (m .store))) × (12 * n ≤ length (now records)) × (12 * n ≤ length (now out)) ⌝ }
-    ensures { λ r. ⌜ ((let m = left flags commands payloads store output in shownParts r (m .tables) (m .store) (now (out .exit)) ≡ eachRecord said met n (now (records .entry)) 0 (recordsPrinted (controllerOf st heads (lent flags commands payloads store output)) [] false))) × (r .count ≤ 12 * n) ⌝ }
+    ensures { λ r. ⌜ (shownWith r (left flags commands payloads store output) (now (out .exit)) ≡ lines n (now (records .entry)) (controllerOf st heads (lent flags commands payloads store output))) × (r .count ≤ 12 * n) ⌝ }
 {
     let mut s = st;
     let mut h = heads;

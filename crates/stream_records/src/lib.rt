@@ -2,14 +2,12 @@
 // ends (`replay.ends`). It knows how many records are due, and no table. `out` takes the text; its bytes past the text
 // are left free.
 ghost use mathlib.Core.Path.{_≡_};
-ghost use mathlib.Core.List.{[]};
 ghost use Prim.Native.Nat.{_+_};
 ghost use Prim.Native.Nat.{_≤_};
-ghost use Prim.Native.Nat.{_<_};
 ghost use lib.ListN.{length};
-ghost use Rattle.answer.specs.Given.{controller};
+ghost use Rattle.answer.specs.Memory.{bankLentStore};
 ghost use Rattle.stream_model.specs.Stream.{recordsOf};
-ghost use Rattle.stream_end.specs.Given.{fedBy};
+ghost use Rattle.stream_end.specs.Given.{fedLeft, Within};
 use bank::Bank;
 use stream_end::StreamTurn;
 use stream_model::Stage;
@@ -23,7 +21,7 @@ pub fn feed_records(
     out: &mut [u8],
 ) -> StreamTurn
     requires { ⌜ length (now bytes) + 12 ≤ length (now out) ⌝ }
-    ensures { λ r. ⌜ (fedBy r (now (store .exit)) (now (out .exit)) ≡ recordsOf (controller b (now (store .entry)) []) due (now (bytes .entry))) × (r .count ≤ length (now (out .exit))) × (r .used ≤ length (now (bytes .entry))) × (length (now (bytes .entry)) < r .used + 12) ⌝ }
+    ensures { λ r. ⌜ (fedLeft r store out ≡ recordsOf (bankLentStore b store) due (now (bytes .entry))) × Within 12 r bytes out ⌝ }
 {
     let n = record::whole(due, bytes);
     let p = stream_lines::show(b, store, bytes, n, out);

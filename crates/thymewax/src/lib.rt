@@ -3,8 +3,9 @@
 // is tested, since another version may have another; the tables are arrays, a pointer in C: 128 addresses and 16 words are
 // the controller's, and what no call tests at run time costs none. Every call takes any input.
 ghost use mathlib.Core.Path.{_≡_};
-ghost use Rattle.image_model.specs.Image.{size, kept};
-ghost use Rattle.host_model.specs.Host.{version, setUpIn, callOf, stepIn, packedOf, sectionIn};
+ghost use Rattle.image_model.specs.Image.{size};
+ghost use Rattle.host_model.specs.Host.{version, setUpIn, callOf, sectionIn};
+ghost use Rattle.host_parts.specs.Lent.{keptLent, keptLeft, lentAll, leftAll, fresh, sizes, gave, stepOn};
 use bank::Sizes;
 
 // The version of layout and calls: the header and the bindings have the same number.
@@ -42,7 +43,7 @@ pub extern "C" fn thymewax_set_up(
     ibimark: u32,
     id: u32,
 ) -> u32
-    ensures { λ n. ⌜ (let h = setUpIn (kept (now (image .entry)) (now (flags .entry)) (now (commands .entry)) (now (payloads .entry))) (record { cmd = cmd; cmdr = cmdr; sdo = sdo; sdi = sdi; ibi = ibi }) (record { cmd = cmdmark; cmdr = cmdrmark; sdo = sdomark; sdi = sdimark; ibi = ibimark }) id in (n ≡ h .number) × (kept (now (image .exit)) (now (flags .exit)) (now (commands .exit)) (now (payloads .exit)) ≡ h .kept)) ⌝ }
+    ensures { λ n. ⌜ fresh n (keptLeft image flags commands payloads) ≡ setUpIn (keptLent image flags commands payloads) (sizes cmd cmdr sdo sdi ibi) (sizes cmdmark cmdrmark sdomark sdimark ibimark) id ⌝ }
 {
     if !host_parts::is_sized(image, flags, commands, payloads) {
         return number::NOT_WELL_FORMED;
@@ -78,7 +79,7 @@ pub extern "C" fn thymewax_step(
     first: u32,
     second: u32,
 ) -> u64
-    ensures { λ r. ⌜ (let h = stepIn (callOf letter offset first second) (kept (now (image .entry)) (now (flags .entry)) (now (commands .entry)) (now (payloads .entry))) (now (store .entry)) (now (output .entry)) in (r ≡ packedOf (h .answer)) × (kept (now (image .exit)) (now (flags .exit)) (now (commands .exit)) (now (payloads .exit)) ≡ h .kept) × (now (store .exit) ≡ h .store) × (now (output .exit) ≡ h .output)) ⌝ }
+    ensures { λ r. ⌜ gave r (leftAll image flags commands payloads store output) ≡ stepOn (callOf letter offset first second) (lentAll image flags commands payloads store output) ⌝ }
 {
     if !host_parts::is_sized(image, flags, commands, payloads) {
         return host_parts::refused(number::NOT_WELL_FORMED);

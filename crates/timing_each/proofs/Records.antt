@@ -17,19 +17,11 @@ use Rattle.trace_model.specs.Format.{lookNumber, section}
 use Rattle.trace_model.proofs.Sections.{refused}
 use Rattle.record_model.specs.Record.{recordAt, eachRecord, wholeRecords}
 use Rattle.record_model.proofs.Each.{goes, stops, ends}
-use Rattle.record_model.proofs.Kept.{same-size, same-output}
 use Rattle.playback_model.specs.Replay.{Replay, telling, replayBegun, did, wrong, replayOf}
 use Rattle.playback_model.proofs.Laws.{refuses, plays}
 
--- a call that is made keeps both lengths
+-- a call is made: the records after it give what it and they gave
 module _ (l : Controller) (k : Call) (y : Out) (output store : List ℕ) (made : givenOut y store output ≡ step rings l k) where
-  pub store-kept : (n : ℕ) → length (l .store) ≡ n → length store ≡ n
-  store-kept n e = ap (λ (x : Step Controller). length (x .next .store)) made ∙ same-size l k ∙ e
-
-  pub output-kept : (n : ℕ) → length (l .output) ≡ n → length output ≡ n
-  output-kept n e = ap (λ (x : Step Controller). length (x .next .output)) made ∙ same-output l k ∙ e
-
-  -- and the records after it give what it and they gave
   pub record-done : (n i : ℕ) (bytes : List ℕ) (a : Answer) (all : Replay) (found : Parsed) → i < n → found ≡ recordAt bytes i → found ≡ Named k
       → eachRecord did wrong (n - i) bytes i (telling 0 i a l) ≡ all
       → eachRecord did wrong (n - (i + 1)) bytes (i + 1) (telling 0 (i + 1) (y .answer) (controller (y .bank) store output)) ≡ all

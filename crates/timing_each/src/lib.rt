@@ -4,15 +4,13 @@ ghost use mathlib.Core.Path.{_≡_};
 ghost use mathlib.Core.List.{[]};
 ghost use Prim.Native.Nat.{_*_};
 ghost use Prim.Native.Nat.{_≤_};
-ghost use Prim.Native.Nat.{_%_};
-ghost use Prim.Native.Nat.{_^_};
 ghost use lib.ListN.{length};
 ghost use Rattle.model.specs.Engine.{step};
 ghost use Rattle.model.specs.Rings.{rings};
 ghost use Rattle.answer.specs.Given.{controller, givenOut};
 ghost use Rattle.record_model.specs.Record.{eachRecord};
-ghost use Rattle.playback_model.specs.Replay.{replayBegun, did, wrong, replayOf};
-ghost use Rattle.timing.specs.Timing.{freshOf, keptIn};
+ghost use Rattle.playback_model.specs.Replay.{replayBegun, did, wrong};
+ghost use Rattle.timing.specs.Timing.{timed, timedOf};
 use answer::Out;
 use bank::Answer;
 use bank::Bank;
@@ -66,7 +64,7 @@ fn replay_records(b: Bank, store: &mut [u32], records: &[u8], n: usize) -> Repor
 // Replays section 0 of a trace on a bank with every capacity `cap`, and gives how many records it did.
 #[no_mangle]
 pub extern "C" fn replay_each(cap: u32, store: &mut [u32], file: &[u8], last: &mut [u32]) -> u32
-    ensures { λ n. ⌜ (let r = replayOf (now (file .entry)) 0 (length (now (file .entry))) (controller (freshOf cap) (now (store .entry)) []) in (n ≡ r .told .count % 2 ^ 32) × (now (store .exit) ≡ r .left .store) × (now (last .exit) ≡ keptIn (now (last .entry)) (r .told .answer))) ⌝ }
+    ensures { λ n. ⌜ timed n (now (store .exit)) (now (last .exit)) ≡ timedOf cap (now (store .entry)) (now (file .entry)) (now (last .entry)) ⌝ }
 {
     let bank = timing::fresh(cap);
     let records = trace::section(file, 0);

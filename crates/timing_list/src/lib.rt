@@ -3,13 +3,10 @@
 // only caller of the step and has it inlined.
 ghost use mathlib.Core.Path.{_≡_};
 ghost use mathlib.Core.List.{[]};
-ghost use Prim.Native.Nat.{_%_};
-ghost use Prim.Native.Nat.{_^_};
-ghost use lib.ListN.{length};
 ghost use Rattle.answer.specs.Given.{controller};
 ghost use Rattle.playback_model.specs.Replay.{replayOf};
 ghost use Rattle.replayed.specs.Given.{replayedOut};
-ghost use Rattle.timing.specs.Timing.{freshOf, keptIn};
+ghost use Rattle.timing.specs.Timing.{timed, timedOf};
 use bank::Bank;
 use replayed::Replayed;
 
@@ -28,7 +25,7 @@ fn replay_once(b: Bank, store: &mut [u32], file: &[u8], i: u32, limit: usize) ->
 // Replays section 0 of a trace on a bank with every capacity `cap`, and gives how many records it did.
 #[no_mangle]
 pub extern "C" fn replay_trace(cap: u32, store: &mut [u32], file: &[u8], last: &mut [u32]) -> u32
-    ensures { λ n. ⌜ (let r = replayOf (now (file .entry)) 0 (length (now (file .entry))) (controller (freshOf cap) (now (store .entry)) []) in (n ≡ r .told .count % 2 ^ 32) × (now (store .exit) ≡ r .left .store) × (now (last .exit) ≡ keptIn (now (last .entry)) (r .told .answer))) ⌝ }
+    ensures { λ n. ⌜ timed n (now (store .exit)) (now (last .exit)) ≡ timedOf cap (now (store .entry)) (now (file .entry)) (now (last .entry)) ⌝ }
 {
     let bank = timing::fresh(cap);
     let out = replay_once(bank, store, file, 0, file.len());

@@ -29,16 +29,21 @@ transfer-of-requires : tie.Need-transfer-of-requires
 transfer-of-requires c κs = search needs
 
 gathered-requires : tie.Need-gathered-requires
-gathered-requires c κs = let i = c .before in
+gathered-requires c κs =
     let a = c .before .before .before in
+    let i = c .before in
     let ws = a .args .commands .now in
-    let r = receives (seen (a .args .st) (lent ws (a .args .len)) noFronts) (a .args .byte) (sym (i .before .receive-number .ensures [] [] (replicate (a .args .len) 0) noFronts (a .args .byte) (length-replicate {A = ℕ} (a .args .len) 0)) ∙ i .if1 .left) in
+    let number = i .before .receive-number .ensures [] [] (replicate (a .args .len) 0) noFronts (a .args .byte) (length-replicate {A = ℕ} (a .args .len) 0) in
+    let r = receives (seen (a .args .st) (lent ws (a .args .len)) noFronts) (a .args .byte) (sym number ∙ i .if1 .left) in
     rw (c .transfer-of .ensures) (gathered-part (a .args .st) ws (a .pre .0) (a .pre .1) (r .1) (r .0))
 
 advance-requires : tie.Need-advance-requires
-advance-requires c κs = let i = c .before .before in
-    let a = c .before .before .before .before in
-    rw (c .before .transfer-of .ensures) (leb-false _ _ (receives (seen (a .args .st) (lent (a .args .commands .now) (a .args .len)) noFronts) (a .args .byte) (sym (i .before .receive-number .ensures [] [] (replicate (a .args .len) 0) noFronts (a .args .byte) (length-replicate {A = ℕ} (a .args .len) 0)) ∙ i .if1 .left) .1))
+advance-requires c κs =
+    let i = c .before .before in
+    let a = i .before .before in
+    let number = i .before .receive-number .ensures [] [] (replicate (a .args .len) 0) noFronts (a .args .byte) (length-replicate {A = ℕ} (a .args .len) 0) in
+    let r = receives (seen (a .args .st) (lent (a .args .commands .now) (a .args .len)) noFronts) (a .args .byte) (sym number ∙ i .if1 .left) in
+    rw (c .before .transfer-of .ensures) (leb-false _ _ (r .1))
 
 none-requires : tie.Need-none-requires
 none-requires c κs = search needs
@@ -53,7 +58,9 @@ returns-2 c = λ b p o f h. let i = c .before .before .before .before .before .b
     let t = tables b ws p o in
     let s = seen (a .args .st) t f in
     let e = sym (i .before .receive-number .ensures b p o f (a .args .byte) h) ∙ i .if1 .left in
-    rw (c .done .ensures t, c .before .none .ensures, c .before .before .before .before .advance .ensures, c .before .before .before .before .before .gathered .ensures, c .before .before .before .before .before .before .transfer-of .ensures) (received s (a .args .byte) (below-four (a .args .st) ws (a .pre .0) (a .pre .1) (receives s (a .args .byte) e .1)) e)
+    let few = below-four (a .args .st) ws (a .pre .0) (a .pre .1) (receives s (a .args .byte) e .1) in
+    let moved = c .before .before .before .before in
+    rw (c .done .ensures t, c .before .none .ensures, moved .advance .ensures, moved .before .gathered .ensures, moved .before .before .transfer-of .ensures) (received s (a .args .byte) few e)
 
 pub receive-spec : {M : Type 1} → statement M
 receive-spec =

@@ -42,7 +42,9 @@ div-byte c = search needs
 advance-requires : tie.Need-advance-requires
 advance-requires c κs = let i = c .before .before .before in
     let a = c .before .before .before .before .before in
-    rw (c .before .before .transfer-of .ensures) (leb-false _ _ (sends (seen (a .args .st) (lent (a .args .commands .now) (a .args .len)) noFronts) (sym (i .before .send-number .ensures [] [] (replicate (a .args .len) 0) noFronts (length-replicate {A = ℕ} (a .args .len) 0)) ∙ i .if1 .left)))
+    let number = i .before .send-number .ensures [] [] (replicate (a .args .len) 0) noFronts (length-replicate {A = ℕ} (a .args .len) 0) in
+    let s = seen (a .args .st) (lent (a .args .commands .now) (a .args .len)) noFronts in
+    rw (c .before .before .transfer-of .ensures) (leb-false _ _ (sends s (sym number ∙ i .if1 .left)))
 
 none-requires : tie.Need-none-requires
 none-requires c κs = search needs
@@ -58,7 +60,11 @@ returns-2 c = λ b o f h. let i = c .before .before .before .before .before .bef
     let t = tables b ws p o in
     let s = seen (a .args .st) t f in
     let e = sym (i .before .send-number .ensures b p o f h) ∙ i .if1 .left in
-    rw (c .done .ensures t, c .before .none .ensures, c .before .before .before .before .advance .ensures, c .before .before .before .before .before .weight .ensures .0, c .before .before .before .before .before .before .data-word .ensures, c .before .before .before .before .before .before .before .transfer-of .ensures) (sent s (below-four (a .args .st) ws (a .pre .0) (a .pre .1) (sends s e)) e)
+    let few = below-four (a .args .st) ws (a .pre .0) (a .pre .1) (sends s e) in
+    let m = c .before .before .before .before in
+    let w = m .before in
+    let d = w .before in
+    rw (c .done .ensures t, c .before .none .ensures, m .advance .ensures, w .weight .ensures .0, d .data-word .ensures, d .before .transfer-of .ensures) (sent s few e)
 
 pub send-spec : {M : Type 1} → statement M
 send-spec =

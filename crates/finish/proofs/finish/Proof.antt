@@ -55,7 +55,8 @@ returns-2 c = λ t f. let o = c .before in
     let x = p .before in
     let i = x .before in
     let a = i .before .before in
-    rw (c .done .ensures t, o .receipt-and .ensures, d .does-remove .ensures, n .removed-words .ensures, k .counted .ensures, r .receipt .ensures, p .is-padded .ensures, x .transfer-of .ensures) (served-as (λ v. finish v (a .args .code)) (seen (a .args .st) t f) refl (sym (i .before .finish-number .ensures t f) ∙ i .if1 .left))
+    let e = sym (i .before .finish-number .ensures t f) ∙ i .if1 .left in
+    rw (c .done .ensures t, o .receipt-and .ensures, d .does-remove .ensures, n .removed-words .ensures, k .counted .ensures, r .receipt .ensures, p .is-padded .ensures, x .transfer-of .ensures) (served-as (λ v. finish v (a .args .code)) (seen (a .args .st) t f) refl e)
 
 pub finish-spec : {M : Type 1} → statement M
 finish-spec =

@@ -36,12 +36,15 @@ returns : tie.Need-returns
 unfolding wellFormed
 returns c =
     let m = c .before in
-    let s = m .before .before .before .args .s in
     let a = m .before .before .before .args in
-    let queues = queuesOk (queuesOf (s .caps) (s .levels) (a .h)) in
-    let ranges = queues && (regsOk (s .regs) && marksOk (s .regs .marks) (s .caps)) in
+    let s = a .s in
+    let queues = queuesOf (s .caps) (s .levels) (a .h) in
+    let opened = openOk (s .control) (s .regs) (s .phase) (a .commands .now) in
+    let reset = resetOk (s .control) (s .phase) queues in
+    let flags = flagsOk (a .flags .now) in
+    let ranges = queuesOk queues && (regsOk (s .regs) && marksOk (s .regs .marks) (s .caps)) in
     let e : ranges ≡ false = rw (sym (m .before .before .queues-ok .ensures), sym (m .before .regs-ok .ensures), sym (m .marks-ok .ensures)) (not-true _ (c .if1 .taken)) in
-    λ ps. first-fails ranges (openOk (s .control) (s .regs) (s .phase) (a .commands .now)) (resetOk (s .control) (s .phase) (queuesOf (s .caps) (s .levels) (a .h))) (flagsOk (a .flags .now)) e
+    λ ps. first-fails ranges opened reset flags e
 
 open-ok-requires : tie.Need-open-ok-requires
 open-ok-requires c κs = search needs
@@ -53,10 +56,13 @@ returns-2 c =
     let m = o .before .before in
     let a = m .before .before .before .args in
     let s = a .s in
-    let queues = queuesOk (queuesOf (s .caps) (s .levels) (a .h)) in
-    let ranges = queues && (regsOk (s .regs) && marksOk (s .regs .marks) (s .caps)) in
+    let queues = queuesOf (s .caps) (s .levels) (a .h) in
+    let opened = openOk (s .control) (s .regs) (s .phase) (a .commands .now) in
+    let reset = resetOk (s .control) (s .phase) queues in
+    let flags = flagsOk (a .flags .now) in
+    let ranges = queuesOk queues && (regsOk (s .regs) && marksOk (s .regs .marks) (s .caps)) in
     let e : ranges ≡ true = rw (sym (m .before .before .queues-ok .ensures), sym (m .before .regs-ok .ensures), sym (m .marks-ok .ensures)) (not-false _ (o .before .if1 .left)) in
-    λ ps. second-fails ranges (openOk (s .control) (s .regs) (s .phase) (a .commands .now)) (resetOk (s .control) (s .phase) (queuesOf (s .caps) (s .levels) (a .h))) (flagsOk (a .flags .now)) e (sym (o .open-ok .ensures) ∙ not-true _ (c .if2 .taken))
+    λ ps. second-fails ranges opened reset flags e (sym (o .open-ok .ensures) ∙ not-true _ (c .if2 .taken))
 
 reset-ok-requires : tie.Need-reset-ok-requires
 reset-ok-requires c κs = search needs
@@ -69,10 +75,13 @@ returns-3 c =
     let m = o .before .before in
     let a = m .before .before .before .args in
     let s = a .s in
-    let queues = queuesOk (queuesOf (s .caps) (s .levels) (a .h)) in
-    let ranges = queues && (regsOk (s .regs) && marksOk (s .regs .marks) (s .caps)) in
+    let queues = queuesOf (s .caps) (s .levels) (a .h) in
+    let opened = openOk (s .control) (s .regs) (s .phase) (a .commands .now) in
+    let reset = resetOk (s .control) (s .phase) queues in
+    let flags = flagsOk (a .flags .now) in
+    let ranges = queuesOk queues && (regsOk (s .regs) && marksOk (s .regs .marks) (s .caps)) in
     let e : ranges ≡ true = rw (sym (m .before .before .queues-ok .ensures), sym (m .before .regs-ok .ensures), sym (m .marks-ok .ensures)) (not-false _ (o .before .if1 .left)) in
-    λ ps. third-fails ranges (openOk (s .control) (s .regs) (s .phase) (a .commands .now)) (resetOk (s .control) (s .phase) (queuesOf (s .caps) (s .levels) (a .h))) (flagsOk (a .flags .now)) e (sym (o .open-ok .ensures) ∙ not-false _ (r .before .if2 .left)) (sym (r .reset-ok .ensures (s .caps)) ∙ not-true _ (c .if3 .taken))
+    λ ps. third-fails ranges opened reset flags e (sym (o .open-ok .ensures) ∙ not-false _ (r .before .if2 .left)) (sym (r .reset-ok .ensures (s .caps)) ∙ not-true _ (c .if3 .taken))
 
 flags-ok-requires : tie.Need-flags-ok-requires
 flags-ok-requires c κs = search needs
@@ -85,10 +94,13 @@ returns-4 c =
     let m = o .before .before in
     let a = m .before .before .before .args in
     let s = a .s in
-    let queues = queuesOk (queuesOf (s .caps) (s .levels) (a .h)) in
-    let ranges = queues && (regsOk (s .regs) && marksOk (s .regs .marks) (s .caps)) in
+    let queues = queuesOf (s .caps) (s .levels) (a .h) in
+    let opened = openOk (s .control) (s .regs) (s .phase) (a .commands .now) in
+    let reset = resetOk (s .control) (s .phase) queues in
+    let flags = flagsOk (a .flags .now) in
+    let ranges = queuesOk queues && (regsOk (s .regs) && marksOk (s .regs .marks) (s .caps)) in
     let e : ranges ≡ true = rw (sym (m .before .before .queues-ok .ensures), sym (m .before .regs-ok .ensures), sym (m .marks-ok .ensures)) (not-false _ (o .before .if1 .left)) in
-    λ ps. c .flags-ok .ensures ∙ all-but-last ranges (openOk (s .control) (s .regs) (s .phase) (a .commands .now)) (resetOk (s .control) (s .phase) (queuesOf (s .caps) (s .levels) (a .h))) (flagsOk (a .flags .now)) e (sym (o .open-ok .ensures) ∙ not-false _ (r .before .if2 .left)) (sym (r .reset-ok .ensures (s .caps)) ∙ not-false _ (c .before .before .if3 .left))
+    λ ps. c .flags-ok .ensures ∙ all-but-last ranges opened reset flags e (sym (o .open-ok .ensures) ∙ not-false _ (r .before .if2 .left)) (sym (r .reset-ok .ensures (s .caps)) ∙ not-false _ (c .before .before .if3 .left))
 
 pub parts-formed-spec : {M : Type 1} → statement M
 parts-formed-spec =

@@ -5,11 +5,8 @@ use lib.Dec.{eqb}
 use lib.ListN.{length}
 use borrow.Author.Needs.{needs}
 use Rattle.bank.specs.SetUp.{total}
-use Rattle.model.specs.Engine.{Step}
-use Rattle.model.specs.Rings.{Controller}
 use Rattle.faults.specs.Faults.{faultBy}
-use Rattle.host_model.specs.Host.{packedOf}
-use Rattle.host_calls.proofs.Left.{kept-left}
+use Rattle.host_calls.proofs.Left.{made}
 use Rattle.host_calls.proofs.make.Statement.{statement}
 use Rattle.host_calls.proofs.make.Tie as tie
 
@@ -38,13 +35,7 @@ same-length-3 : tie.Need-same-length-3
 same-length-3 c = search needs
 
 returns : tie.Need-returns
-returns c =
-    let e = c .before .before .before .before .before .before .before .before .before .step-parts .ensures in (
-      c .packed .ensures ∙ ap (λ (s : Step Controller). packedOf (s .answer)) e,
-      kept-left _ _ _ (c .before .before .before .encode .ensures) e,
-      ap (λ (s : Step Controller). s .next .store) e,
-      ap (λ (s : Step Controller). s .next .output) e,
-    )
+returns c = made _ _ _ _ (c .packed .ensures) (c .before .before .before .encode .ensures) (c .before .before .before .before .before .before .before .before .before .step-parts .ensures)
 
 pub make-spec : {M : Type 1} → statement M
 make-spec =

@@ -8,9 +8,10 @@ use Rattle.model.specs.Engine.{step}
 use Rattle.model.specs.Rings.{rings}
 use Rattle.answer.specs.Given.{controller}
 use Rattle.image_model.specs.Image.{kept}
-use Rattle.host_model.specs.Host.{Hosted, callOf, packedOf}
+use Rattle.host_model.specs.Host.{callOf}
 use Rattle.host_model.proofs.Hosting.{no-bank, not-formed, formed-kept, no-call, one-call}
-use Rattle.host_calls.proofs.Left.{said-by-parts}
+use Rattle.host_parts.specs.Lent.{packed}
+use Rattle.host_parts.proofs.Kept.{said-by-parts, refuses}
 use Rattle.host_calls.proofs.step.Statement.{statement}
 use Rattle.host_calls.proofs.step.Tie as tie
 
@@ -31,17 +32,14 @@ same-length c = search needs
 
 returns : tie.Need-returns
 returns c =
-    let p = c .before .before .before .before .before .before .before .before .before .before .before .before in
-    let a = p .args in
+    let formed = c .before .before in
+    let heads = formed .before .before .before in
+    let state = heads .before .before in
+    let a = state .before .before .before .before .before .args in
     let k = kept (a .image .now) (a .flags .now) (a .commands .now) (a .payloads .now) in
-    let b = said-by-parts k _ _ (c .before .before .before .before .before .before .before .state-in .ensures) (c .before .before .before .before .before .heads-in .ensures) in
-    let w = c .before .before .parts-formed .ensures (a .payloads .now) in
-    let e = no-bank k (a .store .now) (a .output .now) (callOf (a .letter) (a .offset) (a .first) (a .second)) (not-formed k (ap wellFormed (sym b) ∙ sym w ∙ not-true _ (c .before .if1 .taken))) in (
-      c .refused .ensures ∙ ap (λ (h : Hosted). packedOf (h .answer)) e,
-      ap (λ (h : Hosted). h .kept) e,
-      ap (λ (h : Hosted). h .store) e,
-      ap (λ (h : Hosted). h .output) e,
-    )
+    let b = said-by-parts k _ _ (state .state-in .ensures) (heads .heads-in .ensures) in
+    let n = not-formed k (ap wellFormed (sym b) ∙ sym (formed .parts-formed .ensures (a .payloads .now)) ∙ not-true _ (c .before .if1 .taken)) in
+    refuses _ _ k _ _ _ (c .refused .ensures) (no-bank k (a .store .now) (a .output .now) (callOf (a .letter) (a .offset) (a .first) (a .second)) n)
 
 call-of-requires : tie.Need-call-of-requires
 call-of-requires c κs = search needs
@@ -51,8 +49,9 @@ enum-known-c c = search needs
 
 make-requires : tie.Need-make-requires
 make-requires c κs =
-    let p = c .before .before .before .before .before .before .before .before .before .before .before .before .before .before .before .before .before .before .before .before .before in
-    (p .pre .0, sym (c .before .before .before .before .before .before .before .before .before .before .before .parts-formed .ensures (p .args .payloads .now)) ∙ not-false _ (c .before .before .before .before .before .before .before .before .before .before .if1 .left))
+    let tested = c .before .before .before .before .before .before .before .before .before .before in
+    let p = tested .before .before .before .before .before .before .before .before .before .before .before in
+    (p .pre .0, sym (tested .before .parts-formed .ensures (p .args .payloads .now)) ∙ not-false _ (tested .if1 .left))
 
 enum-told : tie.Need-enum-told
 enum-told c = search needs
@@ -71,38 +70,40 @@ same-length-4 c = search needs
 
 returns-2 : tie.Need-returns-2
 returns-2 c =
-    let p = c .before .before .before .before .before .before .before .before .before .before .before .before .before .before .before .before .before .before .before .before .before .before .before .before .before .before .before .before in
+    let made = c .before .before .before .before .before .before in
+    let arm = made .before .before .before .before .before .before .before .before in
+    let named = arm .before .before in
+    let tested = named .before in
+    let heads = tested .before .before .before .before in
+    let state = heads .before .before in
+    let p = state .before .before .before .before .before in
     let a = p .args in
+    let q = callOf (a .letter) (a .offset) (a .first) (a .second) in
     let k = kept (a .image .now) (a .flags .now) (a .commands .now) (a .payloads .now) in
-    let b = said-by-parts k _ _ (c .before .before .before .before .before .before .before .before .before .before .before .before .before .before .before .before .before .before .before .before .before .before .before .state-in .ensures) (c .before .before .before .before .before .before .before .before .before .before .before .before .before .before .before .before .before .before .before .before .before .heads-in .ensures) in
-    let w = c .before .before .before .before .before .before .before .before .before .before .before .before .before .before .before .before .before .before .parts-formed .ensures (a .payloads .now) in
-    let g = c .before .before .before .before .before .before .before .before .before .before .before .before .before .before .c .given in
-    let m = c .before .before .before .before .before .before .make .ensures in
-    let t = formed-kept k (p .pre .1) (p .pre .2) ∙ ap wellFormed (sym b) ∙ sym w ∙ not-false _ (c .before .before .before .before .before .before .before .before .before .before .before .before .before .before .before .before .before .if1 .left) in
-    let e = one-call k (a .store .now) (a .output .now) (callOf (a .letter) (a .offset) (a .first) (a .second)) (g .0 .0) _ t (sym (c .before .before .before .before .before .before .before .before .before .before .before .before .before .before .before .before .call-of .ensures) ∙ g .1) (ap (λ (x : Bank). step rings (controller x (a .store .now) (a .output .now)) (g .0 .0)) b) in (
-      m .0 ∙ ap (λ (h : Hosted). packedOf (h .answer)) e,
-      m .1 ∙ ap (λ (h : Hosted). h .kept) e,
-      m .2 ∙ ap (λ (h : Hosted). h .store) e,
-      m .3 ∙ ap (λ (h : Hosted). h .output) e,
-    )
+    let b = said-by-parts k _ _ (state .state-in .ensures) (heads .heads-in .ensures) in
+    let g = arm .c .given in
+    let w = sym (tested .before .parts-formed .ensures (a .payloads .now)) ∙ not-false _ (tested .if1 .left) in
+    let t = formed-kept k (p .pre .1) (p .pre .2) ∙ ap wellFormed (sym b) ∙ w in
+    let s = ap (λ (x : Bank). step rings (controller x (a .store .now) (a .output .now)) (g .0 .0)) b in
+    made .make .ensures ∙ ap packed (one-call k (a .store .now) (a .output .now) q (g .0 .0) _ t (sym (named .call-of .ensures) ∙ g .1) s)
 
 same-length-5 : tie.Need-same-length-5
 same-length-5 c = search needs
 
 returns-3 : tie.Need-returns-3
 returns-3 c =
-    let p = c .before .before .before .before .before .before .before .before .before .before .before .before .before .before .before in
+    let named = c .before .before .before in
+    let tested = named .before in
+    let heads = tested .before .before .before .before in
+    let state = heads .before .before in
+    let p = state .before .before .before .before .before in
     let a = p .args in
+    let q = callOf (a .letter) (a .offset) (a .first) (a .second) in
     let k = kept (a .image .now) (a .flags .now) (a .commands .now) (a .payloads .now) in
-    let b = said-by-parts k _ _ (c .before .before .before .before .before .before .before .before .before .before .state-in .ensures) (c .before .before .before .before .before .before .before .before .heads-in .ensures) in
-    let w = c .before .before .before .before .before .parts-formed .ensures (a .payloads .now) in
-    let t = formed-kept k (p .pre .1) (p .pre .2) ∙ ap wellFormed (sym b) ∙ sym w ∙ not-false _ (c .before .before .before .before .if1 .left) in
-    let e = no-call k (a .store .now) (a .output .now) (callOf (a .letter) (a .offset) (a .first) (a .second)) t (sym (c .before .before .before .call-of .ensures) ∙ c .before .enum-told .given .1) in (
-      c .refused2 .ensures ∙ ap (λ (h : Hosted). packedOf (h .answer)) e,
-      ap (λ (h : Hosted). h .kept) e,
-      ap (λ (h : Hosted). h .store) e,
-      ap (λ (h : Hosted). h .output) e,
-    )
+    let b = said-by-parts k _ _ (state .state-in .ensures) (heads .heads-in .ensures) in
+    let w = sym (tested .before .parts-formed .ensures (a .payloads .now)) ∙ not-false _ (tested .if1 .left) in
+    let t = formed-kept k (p .pre .1) (p .pre .2) ∙ ap wellFormed (sym b) ∙ w in
+    refuses _ _ k _ _ _ (c .refused2 .ensures) (no-call k (a .store .now) (a .output .now) q t (sym (named .call-of .ensures) ∙ c .before .enum-told .given .1))
 
 pub step-spec : {M : Type 1} → statement M
 step-spec =

@@ -33,11 +33,11 @@ returns-2 : tie.Need-returns-2
 returns-2 c =
     let p = c .before .before .before .before .before .before .before .before .before .before .before .before .before in
     let a = p .before .before .args in
-    let t = a .t in (
-      refl,
-      c .before .before .put3 .ensures ∙ ap (λ (ws : List ℕ). set ws 2 (t .answer .number)) (c .before .before .before .before .before .before .put2 .ensures ∙ ap (λ (ws : List ℕ). set ws 1 (t .answer .value)) (c .before .before .before .before .before .before .before .before .before .before .put .ensures))
-          ∙ is-told t (a .told .now) (not-false _ (p .if1 .left)),
-    )
+    let t = a .t in
+    let first = c .before .before .before .before .before .before .before .before .before .before .put .ensures in
+    let second = c .before .before .before .before .before .before .put2 .ensures ∙ ap (λ (ws : List ℕ). set ws 1 (t .answer .value)) first in
+    let third = c .before .before .put3 .ensures ∙ ap (λ (ws : List ℕ). set ws 2 (t .answer .number)) second in
+    (refl, third ∙ is-told t (a .told .now) (not-false _ (p .if1 .left)))
 
 pub tell-spec : {M : Type 1} → statement M
 tell-spec =

@@ -1,5 +1,5 @@
 -- `host_replay::replay` meets its contract.
-use mathlib.Core.Path.{ap, sym, _∙_}
+use mathlib.Core.Path.{ap, _∙_}
 use mathlib.Core.List.{[]}
 use borrow.Author.Needs.{needs}
 use borrow.Author.Tests.{not-true, not-false}
@@ -8,9 +8,10 @@ use Rattle.model.specs.View.{tables}
 use Rattle.answer.specs.Given.{bankWith, controller}
 use Rattle.playback_model.specs.Replay.{replayOf}
 use Rattle.image_model.specs.Image.{stateIn, headsIn, kept}
-use Rattle.host_model.specs.Host.{Replayed}
 use Rattle.host_model.proofs.Replaying.{unformed, said}
-use Rattle.host_replay.proofs.Said.{long, is-sized, is-encoded, not-said, kept-bank, said-by-parts}
+use Rattle.host_parts.proofs.Kept.{kept-bank, said-by-parts}
+use Rattle.host_replay.proofs.Given.{gives}
+use Rattle.host_replay.proofs.Said.{is-long, is-sized, is-encoded, not-said}
 use Rattle.host_replay.proofs.replay.Statement.{statement}
 use Rattle.host_replay.proofs.replay.Tie as tie
 
@@ -70,12 +71,9 @@ returns c =
     let n = not-said k _ _ _ (sized .is-sized .ensures) (encoded .is-encoded .ensures) (copied .words-of .ensures .1) t in
     let w = heads .heads-if .ensures .1 t (state .state-in .result) (a .flags .now) (a .commands .now) (a .payloads .now) in
     let u = unformed (a .file .now) (a .i) (a .limit) k (a .store .now) (a .told .now) n _ w _ (played .on-parts .ensures) in
-    let v = c .before .before .tell .ensures in (
-      v .0 ∙ ap (λ (h : Replayed). h .number) (u .1),
-      ap (λ (b : Bank). kept (a .image .now) (b .flags) (b .commands) (b .payloads)) (u .0) ∙ ap (λ (h : Replayed). h .kept) (u .1),
-      ap (λ (h : Replayed). h .store) (u .1),
-      v .1 ∙ ap (λ (h : Replayed). h .told) (u .1),
-    )
+    let v = c .before .before .tell .ensures in
+    let tabled = ap (λ (b : Bank). kept (a .image .now) (b .flags) (b .commands) (b .payloads)) (u .0) in
+    gives _ _ _ _ _ (v .0) tabled (v .1) (u .1)
 
 encode-requires : tie.Need-encode-requires
 encode-requires c κs =
@@ -85,7 +83,7 @@ encode-requires c κs =
     let copied = sized .before .before .before .before .before .before .before .before in
     let a = copied .before .before .before .before .before .before .args in
     let k = kept (a .image .now) (a .flags .now) (a .commands .now) (a .payloads .now) in
-    long k _ _ _ (sized .is-sized .ensures) (encoded .is-encoded .ensures) (copied .words-of .ensures .1) (not-false _ (c .before .if1 .left))
+    is-long k _ _ _ (sized .is-sized .ensures) (encoded .is-encoded .ensures) (copied .words-of .ensures .1) (not-false _ (c .before .if1 .left))
 
 tell-requires-2 : tie.Need-tell-requires-2
 tell-requires-2 c κs = search needs
@@ -110,20 +108,18 @@ returns-2 c =
     let a = copied .before .before .before .before .before .before .args in
     let k = kept (a .image .now) (a .flags .now) (a .commands .now) (a .payloads .now) in
     let t = not-false _ (c .before .before .before .before .before .before .before .before .if1 .left) in
-    let q = copied .words-of .ensures .1 (long k _ _ _ (sized .is-sized .ensures) (encoded .is-encoded .ensures) (copied .words-of .ensures .1) t) in
+    let q = copied .words-of .ensures .1 (is-long k _ _ _ (sized .is-sized .ensures) (encoded .is-encoded .ensures) (copied .words-of .ensures .1) t) in
     let is-state = state .state-in .ensures ∙ ap stateIn q in
     let are-heads = heads .heads-if .ensures .0 t ∙ heads .before .heads-in .ensures ∙ ap headsIn q in
     let b = said-by-parts k _ _ is-state are-heads in
     let y = played .on-parts in
     let left = bankWith (y .result .state) (y .result .heads) (tables (y .last .1 .1 .0) (y .last .1 .1 .1 .0) (y .last .1 .1 .1 .1 .0) []) in
     let r = y .ensures ∙ ap (λ (x : Bank). replayOf (a .file .now) (a .i) (a .limit) (controller x (a .store .now) [])) b in
-    let e = said (a .file .now) (a .i) (a .limit) k (a .store .now) (a .told .now) (is-sized k _ _ _ (sized .is-sized .ensures) (encoded .is-encoded .ensures) (copied .words-of .ensures .1) t) (is-encoded k _ _ _ (sized .is-sized .ensures) (encoded .is-encoded .ensures) (copied .words-of .ensures .1) t) _ r in
-    let v = c .before .before .tell2 .ensures in (
-      v .0 ∙ ap (λ (h : Replayed). h .number) e,
-      kept-bank _ left (c .before .before .before .before .before .before .encode .ensures) ∙ ap (λ (h : Replayed). h .kept) e,
-      ap (λ (h : Replayed). h .store) e,
-      v .1 ∙ ap (λ (h : Replayed). h .told) e,
-    )
+    let sized-so = is-sized k _ _ _ (sized .is-sized .ensures) (encoded .is-encoded .ensures) (copied .words-of .ensures .1) t in
+    let encoded-so = is-encoded k _ _ _ (sized .is-sized .ensures) (encoded .is-encoded .ensures) (copied .words-of .ensures .1) t in
+    let v = c .before .before .tell2 .ensures in
+    let written = kept-bank _ left (c .before .before .before .before .before .before .encode .ensures) in
+    gives _ _ _ _ _ (v .0) written (v .1) (said (a .file .now) (a .i) (a .limit) k (a .store .now) (a .told .now) sized-so encoded-so _ r)
 
 pub replay-spec : {M : Type 1} → statement M
 replay-spec =

@@ -39,13 +39,21 @@ loop-less : tie.Need-loop-less Inv-loop μ-loop
 loop-less c = search needs
 
 loop-again : tie.Need-loop-again Inv-loop μ-loop
-loop-again c = let l = c .before .before .before .loop in let line = c .before .before .before .before .before .before .args .line .now in let t : l .i < length line = c .before .before .loop-test .taken in (omega arith, l .inv .1, refl, c .eat .ensures ∙ ap (λ (x : Reading). eatOf x (getD line (l .i) 0)) (l .inv .3) ∙ reading-next line (l .i) t)
+loop-again c =
+    let turn = c .before .before in
+    let l = turn .before .loop in
+    let line = turn .before .before .before .before .args .line .now in
+    let t : l .i < length line = turn .loop-test .taken in
+    (omega arith, l .inv .1, refl, c .eat .ensures ∙ ap (λ (x : Reading). eatOf x (getD line (l .i) 0)) (l .inv .3) ∙ reading-next line (l .i) t)
 
 named-requires : tie.Need-named-requires Inv-loop μ-loop
 named-requires c κs = search needs
 
 returns : tie.Need-returns Inv-loop μ-loop
-returns c = let l = c .before .before .loop in let line = c .before .before .before .before .before .args .line .now in c .named .ensures ∙ ap callRead (l .inv .3 ∙ ap readingOf (take-all (l .i) line (c .before .loop-test .left))) ∙ reads-the-grammar line
+returns c =
+    let l = c .before .before .loop in
+    let line = c .before .before .before .before .before .args .line .now in
+    c .named .ensures ∙ ap callRead (l .inv .3 ∙ ap readingOf (take-all (l .i) line (c .before .loop-test .left))) ∙ reads-the-grammar line
 
 pub parse-spec : {M : Type 1} → statement M
 parse-spec =

@@ -156,7 +156,9 @@ returns-6 c =
     λ o f n i m.
     let t = tables (a .args .flags .now) ws (a .args .payloads .now) o in
     let s = seen st t f in
-    called s _ _ _ (is .1) (past s (λ v. misfit (Finish (is .0 .0))) 18 (λ v. burstOr v (burstFinish v (is .0 .0)) (finish v (is .0 .0))) _ (sym (ap misfit (is .1)) ∙ m) (inside s (λ v. burstFinish v (is .0 .0)) (λ v. finish v (is .0 .0)) _ (a .pre .0) (c .finish .ensures (a .args .payloads .now) o f n)))
+    let k = is .0 .0 in
+    let e = inside s (λ v. burstFinish v k) (λ v. finish v k) _ (a .pre .0) (c .finish .ensures (a .args .payloads .now) o f n) in
+    called s _ _ _ (is .1) (past s (λ v. misfit (Finish k)) 18 (λ v. burstOr v (burstFinish v k) (finish v k)) _ (sym (ap misfit (is .1)) ∙ m) e)
 
 returns-7 : tie.Need-returns-7
 returns-7 c =
@@ -170,7 +172,10 @@ returns-7 c =
     let t = tables (a .args .flags .now) ws (a .args .payloads .now) o in
     let s = seen st t f in
     let lacks = l .is-output-short .ensures ∙ short-is st (a .args .flags .now) ws (a .args .payloads .now) o f (a .args .len) (a .pre .0) n in
-    called s _ _ _ (is .1) (past s (λ v. misfit (Interrupt (is .0 .0) (is .0 .1 .0))) 18 (λ v. shortInBurst v ⇒ 13 ∣ interrupt v (is .0 .0) (is .0 .1 .0)) _ (sym (ap misfit (is .1)) ∙ m) (c .bar2 .ensures t f ∙ ap (λ (b : Bool). unchanged s withNumber cond b 13 (cond (st .control .held) 5 6)) lacks ∙ bars-interrupt s (z .0) (is .0 .0) (is .0 .1 .0)))
+    let d = is .0 .0 in
+    let k = is .0 .1 .0 in
+    let e = c .bar2 .ensures t f ∙ ap (λ (b : Bool). unchanged s withNumber cond b 13 (cond (st .control .held) 5 6)) lacks ∙ bars-interrupt s (z .0) d k in
+    called s _ _ _ (is .1) (past s (λ v. misfit (Interrupt d k)) 18 (λ v. shortInBurst v ⇒ 13 ∣ interrupt v d k) _ (sym (ap misfit (is .1)) ∙ m) e)
 
 returns-8 : tie.Need-returns-8
 returns-8 c =

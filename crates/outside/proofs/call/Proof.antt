@@ -192,7 +192,10 @@ returns-7 c =
     λ o n.
     let t = tables (a .flags .now) (a .commands .now) (a .payloads .now) o in
     let v = view (a .st) (a .h) t s in
-    called v _ _ _ (is .1) (let d = is .0 .0 in let k = is .0 .1 .0 in past v (λ x. misfit (Interrupt d k)) 18 (λ x. shortInBurst x ⇒ 13 ∣ interrupt x d k) _ (sym (ap misfit (is .1)) ∙ b .pre .1) (past v shortInBurst 13 (λ x. interrupt x d k) _ (never-short v none) (c .interrupt .ensures (a .commands .now) (a .payloads .now) o f)))
+    let d = is .0 .0 in
+    let k = is .0 .1 .0 in
+    let e = past v shortInBurst 13 (λ x. interrupt x d k) _ (never-short v none) (c .interrupt .ensures (a .commands .now) (a .payloads .now) o f) in
+    called v _ _ _ (is .1) (past v (λ x. misfit (Interrupt d k)) 18 (λ x. shortInBurst x ⇒ 13 ∣ interrupt x d k) _ (sym (ap misfit (is .1)) ∙ b .pre .1) e)
 
 returns-8 : tie.Need-returns-8
 returns-8 c =

@@ -8,8 +8,9 @@ use Rattle.answer.specs.Given.{bankWith, controller}
 use Rattle.faults.specs.Faults.{faultNumber}
 use Rattle.record_model.specs.Record.{eachRecord}
 use Rattle.record_model.proofs.Each.{starts}
+use Rattle.record_model.proofs.Kept.{store-kept, output-kept}
 use Rattle.playback_model.specs.Replay.{telling, replayBegun, did, wrong}
-use Rattle.player.proofs.Records.{store-kept, output-kept, fault-kept, record-done, record-wrong, records-done}
+use Rattle.player.proofs.Records.{fault-kept, record-done, record-wrong, records-done}
 use Rattle.player.proofs.replay_parts.Statement.{statement}
 use Rattle.player.proofs.replay_parts.Tie as tie
 
@@ -64,15 +65,15 @@ loop-again : tie.Need-loop-again Inv-loop μ-loop
 loop-again c =
     let g = turn c in
     let taken = g .before .before .before in
-    let left = taken .before .loop .inv .6 in
+    let inv = taken .before .loop .inv in
     let made = c .before .before .before .before .before .before .before .step-parts .ensures in (
       search needs,
       search needs,
       search needs,
-      search (store-kept, made),
-      search (output-kept, made),
+      store-kept _ _ _ _ made (inv .3),
+      output-kept _ _ _ _ made (inv .4),
       search (fault-kept, made),
-      search (record-done, made, g .c .given .1, g .before .before .at .ensures, taken .loop-test .taken, left),
+      search (record-done, made, g .c .given .1, g .before .before .at .ensures, taken .loop-test .taken, inv .6),
     )
 
 reach-requires : tie.Need-reach-requires Inv-loop μ-loop

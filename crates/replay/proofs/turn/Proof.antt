@@ -41,7 +41,7 @@ slice-reshare-prefix-write-counted : tie.Need-slice-reshare-prefix-write-counted
 slice-reshare-prefix-write-counted c = search needs
 
 slice-aggregate-write-counted : tie.Need-slice-aggregate-write-counted
-slice-aggregate-write-counted c = simp length-take (omega (arith, c .before .before .before .before .before .feed .ensures .1))
+slice-aggregate-write-counted c = simp length-take (omega (arith, c .before .before .before .before .before .feed .ensures .1 .0))
 
 write-counted-requires : tie.Need-write-counted-requires
 write-counted-requires c κs = search needs
@@ -50,13 +50,13 @@ sub-rest : tie.Need-sub-rest
 sub-rest c =
     let y = fed c in
     let f = filled y .fill in
-    omega (arith, length-take-le (f .result .have) (f .last .0) (f .ensures .1), y .feed .ensures .2)
+    omega (arith, length-take-le (f .result .have) (f .last .0) (f .ensures .1), y .feed .ensures .1 .1)
 
 shift-requires : tie.Need-shift-requires
 shift-requires c κs =
     let y = fed (c .before) in
     let f = filled y .fill in
-    omega (arith, length-take-le (f .result .have) (f .last .0) (f .ensures .1), f .ensures .1, y .feed .ensures .2)
+    omega (arith, length-take-le (f .result .have) (f .last .0) (f .ensures .1), f .ensures .1, y .feed .ensures .1 .1)
 
 counted-requires : tie.Need-counted-requires
 counted-requires c κs = search needs
@@ -77,7 +77,7 @@ returns-2 : tie.Need-returns-2
 returns-2 c =
     let y = fed (c .before .before .before .before .before .before .before) in
     let f = filled y .fill in
-    omega (arith, length-take-le (f .result .have) (f .last .0) (f .ensures .1), y .feed .ensures .2, y .feed .ensures .3)
+    omega (arith, length-take-le (f .result .have) (f .last .0) (f .ensures .1), y .feed .ensures .1 .1, y .feed .ensures .1 .2)
 
 pub turn-spec : {M : Type 1} → statement M
 turn-spec =

@@ -38,7 +38,8 @@ done-requires c κs = search needs
 returns-2 : tie.Need-returns-2
 returns-2 c = λ t f h i j. let a = c .before .before .before .before .before in
     let k = c .before .before .before .before .before .before .before .before in
-    rw (c .done .ensures t, c .before .on-cmd .ensures, c .before .before .select .ensures, a .begun-by .ensures, a .before .is-attached .ensures, a .before .before .kind-of .ensures, j, h, i) (started (seen (k .before .before .args .st) t f) (sym (k .before .start-number .ensures t f h i) ∙ k .if1 .left))
+    let e = started (seen (k .before .before .args .st) t f) (sym (k .before .start-number .ensures t f h i) ∙ k .if1 .left) in
+    rw (c .done .ensures t, c .before .on-cmd .ensures, c .before .before .select .ensures, a .begun-by .ensures, a .before .is-attached .ensures, a .before .before .kind-of .ensures, j, h, i) e
 
 pub start-spec : {M : Type 1} → statement M
 start-spec =

@@ -26,7 +26,7 @@ same-length-2 : tie.Need-same-length-2
 same-length-2 c = search needs
 
 returns : tie.Need-returns
-returns c = (search (at-opening, needs), search needs, search needs, search needs)
+returns c = (search (at-opening, needs), search needs)
 
 same-length-3 : tie.Need-same-length-3
 same-length-3 c = search needs
@@ -35,10 +35,10 @@ same-length-4 : tie.Need-same-length-4
 same-length-4 c = search needs
 
 returns-2 : tie.Need-returns-2
-returns-2 c = (search (at-records, needs), search needs, search needs, search needs)
+returns-2 c = (search (at-records, needs), search needs)
 
 returns-3 : tie.Need-returns-3
-returns-3 c = (search (at-end, needs), search needs, search needs, search needs)
+returns-3 c = (search (at-end, needs), search needs)
 
 pub feed-spec : {M : Type 1} → statement M
 feed-spec =

@@ -15,7 +15,7 @@ enum-told : tie.Need-enum-told
 enum-told c = search needs
 
 returns : tie.Need-returns
-returns c = (search (head-more, needs), search needs, search needs, search (head-short, needs))
+returns c = (search (head-more, needs), (search needs, search needs, search (head-short, needs)))
 
 enum-known-number : tie.Need-enum-known-number
 enum-known-number c = search needs
@@ -33,7 +33,7 @@ returns-2 c =
     let found = m .before .before in
     let a = found .before .before .before .before in
     let out : length (y .last .1 .1 .1 .0) ≡ length (a .args .out .now) = search needs in
-    (search (head-wrong, y .ensures .0, m .number .given .1, found .read-head .ensures), omega (arith, a .pre, out, y .ensures .1), search needs, search needs)
+    (search (head-wrong, y .ensures .0, m .number .given .1, found .read-head .ensures), (omega (arith, a .pre, out, y .ensures .1), search needs, search needs))
 
 enum-known-len : tie.Need-enum-known-len
 enum-known-len c = search needs
@@ -62,7 +62,7 @@ add-t20 c =
     let there = head-there (a .args .bytes .now) _ (h .before .before .read-head .ensures) (h .len .given .0 .0) _ (h .len .given .1) in
     let rest = rest-length (h .len .given .0 .0) (a .args .bytes .now) in
     let y = c .before .before .before .before .before .before .feed-records in
-    let fits : h .len .given .0 .0 + y .result .used < 18446744073709551616 = omega (arith, y .ensures .2, there, rest, long) in
+    let fits : h .len .given .0 .0 + y .result .used < 18446744073709551616 = omega (arith, y .ensures .1 .1, there, rest, long) in
     search needs
 
 same-length-2 : tie.Need-same-length-2
@@ -80,9 +80,7 @@ returns-3 c =
     let rest = rest-length (h .len .given .0 .0) (a .bytes .now) in
     let y = c .before .before .before .before .before .before .feed-records in (
       head-right (a .bytes .now) _ found (a .b) (a .store .now) (y .result) _ _ (h .len .given .0 .0) _ (h .len .given .1) (y .ensures .0),
-      y .ensures .1,
-      omega (arith, y .ensures .2, there, rest),
-      omega (arith, y .ensures .3, there, rest),
+      (y .ensures .1 .0, omega (arith, y .ensures .1 .1, there, rest), omega (arith, y .ensures .1 .2, there, rest)),
     )
 
 pub open-spec : {M : Type 1} → statement M

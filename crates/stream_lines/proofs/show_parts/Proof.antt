@@ -10,8 +10,9 @@ use Rattle.answer.specs.Given.{bankWith, controller}
 use Rattle.faults.specs.Faults.{faultNumber}
 use Rattle.record_model.specs.Record.{eachRecord}
 use Rattle.record_model.proofs.Each.{starts}
+use Rattle.record_model.proofs.Kept.{store-kept, output-kept}
 use Rattle.stream_model.specs.Stream.{recordsPrinted, said, met}
-use Rattle.stream_lines.proofs.Turns.{store-kept, output-kept, fault-kept, line-done, line-wrong, lines-done}
+use Rattle.stream_lines.proofs.Turns.{fault-kept, line-done, line-wrong, lines-done}
 use Rattle.stream_lines.proofs.show_parts.Statement.{statement}
 use Rattle.stream_lines.proofs.show_parts.Tie as tie
 
@@ -88,16 +89,16 @@ loop-again c =
     let put = c .before .before in
     let line = put .before .before in
     let made = line .before .before .before .before .before .before .before .step-parts .ensures in
-    let left = taken .before .loop .inv .8 in (
+    let inv = taken .before .loop .inv in (
       search needs,
       search needs,
       search needs,
-      search (store-kept, made),
-      search (output-kept, made),
+      store-kept _ _ _ _ made (inv .3),
+      output-kept _ _ _ _ made (inv .4),
       search (fault-kept, made),
       search needs,
       search needs,
-      search (line-done, made, k .c .given .1, k .before .before .at .ensures, taken .loop-test .taken, line .line .ensures, put .put .ensures, left),
+      line-done _ _ _ _ _ _ _ _ made _ _ _ _ _ _ _ _ (taken .loop-test .taken) (k .before .before .at .ensures) (k .c .given .1) (line .line .ensures) (put .put .ensures) (inv .8),
     )
 
 mul-t32 : tie.Need-mul-t32 Inv-loop μ-loop

@@ -44,9 +44,7 @@ returns c =
     let same : length (c .before .before .close .last .1 .1 .1 .0) ≡ length (p .show .last .1 .1 .1 .1 .0) = search needs in
     let room : length (p .show .last .1 .1 .1 .1 .0) ≡ length (a .args .out .now) = search (needs, after .before .before .out .given) in (
       y .0 _ ∙ wrong-met l (a .args .due) (a .args .bytes .now) _ _ (n .0) (p .show .ensures .0) (c .before .before .before .before .if1 .taken),
-      omega (arith, a .pre, same, room, y .1, p .show .ensures .1, n .1),
-      omega (arith, y .2),
-      omega (arith, y .2),
+      (omega (arith, a .pre, same, room, y .1, p .show .ensures .1, n .1), omega (arith, y .2), omega (arith, y .2)),
     )
 
 -- the records' bytes can be counted, since those of the piece are
@@ -79,9 +77,7 @@ returns-2 c =
     let same : length (c .before .before .close2 .last .1 .1 .1 .0) ≡ length (p .show .last .1 .1 .1 .1 .0) = search needs in
     let room : length (p .show .last .1 .1 .1 .1 .0) ≡ length (a .args .out .now) = search (needs, after .before .before .out .given) in (
       y .0 _ ∙ too-long l (a .args .due) (a .args .bytes .now) _ _ (n .0) (p .show .ensures .0) (c .before .before .before .before .before .if1 .left) (c .before .before .before .before .if2 .taken),
-      omega (arith, a .pre, same, room, y .1, p .show .ensures .1, n .1),
-      omega (arith, y .2),
-      omega (arith, y .2),
+      (omega (arith, a .pre, same, room, y .1, p .show .ensures .1, n .1), omega (arith, y .2), omega (arith, y .2)),
     )
 
 sub-t18 : tie.Need-sub-t18
@@ -107,9 +103,7 @@ returns-3 c =
     let n = p .before .before .before .whole .ensures in
     let room : length (p .show .last .1 .1 .1 .1 .0) ≡ length (a .args .out .now) = search needs in (
       goes-on l (a .args .due) (a .args .bytes .now) _ _ (n .0) (p .show .ensures .0) (c .before .if1 .left) (c .if2 .left),
-      omega (arith, a .pre, room, p .show .ensures .1, n .1),
-      n .1,
-      search (rest-short, n .0, c .if2 .left),
+      (omega (arith, a .pre, room, p .show .ensures .1, n .1), n .1, search (rest-short, n .0, c .if2 .left)),
     )
 
 pub feed-records-spec : {M : Type 1} → statement M

@@ -1,11 +1,11 @@
 -- `thymewax::thymewax_set_up` meets its contract.
-use mathlib.Core.Path.{ap, sym, _∙_}
+use mathlib.Core.Path.{sym, _∙_}
 use borrow.Author.Needs.{needs}
 use borrow.Author.Tests.{not-true, not-false}
 use Rattle.image_model.specs.Image.{kept}
-use Rattle.host_model.specs.Host.{Fresh}
 use Rattle.host_model.proofs.Hosting.{no-size}
-use Rattle.thymewax.proofs.Sized.{long}
+use Rattle.host_parts.specs.Lent.{sizes}
+use Rattle.host_parts.proofs.Kept.{long}
 use Rattle.thymewax.proofs.thymewax_set_up.Statement.{statement}
 use Rattle.thymewax.proofs.thymewax_set_up.Tie as tie
 
@@ -19,8 +19,9 @@ returns : tie.Need-returns
 returns c =
     let a = c .before .before .before .before .before .before .before .before .before .before .args in
     let k = kept (a .image .now) (a .flags .now) (a .commands .now) (a .payloads .now) in
-    let e = no-size k (record { cmd = a .cmd; cmdr = a .cmdr; sdo = a .sdo; sdi = a .sdi; ibi = a .ibi }) (record { cmd = a .cmdmark; cmdr = a .cmdrmark; sdo = a .sdomark; sdi = a .sdimark; ibi = a .ibimark }) (a .id) (sym (c .before .is-sized .ensures) ∙ not-true _ (c .if1 .taken)) in
-    (ap (λ (h : Fresh). h .number) e, ap (λ (h : Fresh). h .kept) e)
+    let caps = sizes (a .cmd) (a .cmdr) (a .sdo) (a .sdi) (a .ibi) in
+    let marks = sizes (a .cmdmark) (a .cmdrmark) (a .sdomark) (a .sdimark) (a .ibimark) in
+    no-size k caps marks (a .id) (sym (c .before .is-sized .ensures) ∙ not-true _ (c .if1 .taken))
 
 set-up-requires : tie.Need-set-up-requires
 set-up-requires c κs =

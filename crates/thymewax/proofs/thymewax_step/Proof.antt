@@ -1,11 +1,11 @@
 -- `thymewax::thymewax_step` meets its contract.
-use mathlib.Core.Path.{ap, sym, _∙_}
+use mathlib.Core.Path.{sym, _∙_}
 use borrow.Author.Needs.{needs}
 use borrow.Author.Tests.{not-true, not-false}
 use Rattle.image_model.specs.Image.{kept}
-use Rattle.host_model.specs.Host.{Hosted, callOf, packedOf}
+use Rattle.host_model.specs.Host.{callOf}
 use Rattle.host_model.proofs.Hosting.{not-encoded, no-bank}
-use Rattle.thymewax.proofs.Sized.{long, not-kept}
+use Rattle.host_parts.proofs.Kept.{long, not-kept, refuses}
 use Rattle.thymewax.proofs.thymewax_step.Statement.{statement}
 use Rattle.thymewax.proofs.thymewax_step.Tie as tie
 
@@ -22,12 +22,8 @@ returns : tie.Need-returns
 returns c =
     let a = c .before .before .before .before .before .before .before .before .before .before .before .before .before .args in
     let k = kept (a .image .now) (a .flags .now) (a .commands .now) (a .payloads .now) in
-    let e = no-bank k (a .store .now) (a .output .now) (callOf (a .letter) (a .offset) (a .first) (a .second)) (not-kept k (sym (c .before .before .is-sized .ensures) ∙ not-true _ (c .before .if1 .taken))) in (
-      c .refused .ensures ∙ ap (λ (h : Hosted). packedOf (h .answer)) e,
-      ap (λ (h : Hosted). h .kept) e,
-      ap (λ (h : Hosted). h .store) e,
-      ap (λ (h : Hosted). h .output) e,
-    )
+    let n = not-kept k (sym (c .before .before .is-sized .ensures) ∙ not-true _ (c .before .if1 .taken)) in
+    refuses _ _ k _ _ _ (c .refused .ensures) (no-bank k (a .store .now) (a .output .now) (callOf (a .letter) (a .offset) (a .first) (a .second)) n)
 
 is-encoded-requires : tie.Need-is-encoded-requires
 is-encoded-requires c κs =
@@ -45,19 +41,17 @@ returns-2 : tie.Need-returns-2
 returns-2 c =
     let a = c .before .before .before .before .before .before .before .before .before .before .before .before .before .before .before .before .args in
     let k = kept (a .image .now) (a .flags .now) (a .commands .now) (a .payloads .now) in
-    let e = no-bank k (a .store .now) (a .output .now) (callOf (a .letter) (a .offset) (a .first) (a .second)) (not-encoded k (sym (c .before .before .is-encoded .ensures) ∙ not-true _ (c .before .if2 .taken))) in (
-      c .refused2 .ensures ∙ ap (λ (h : Hosted). packedOf (h .answer)) e,
-      ap (λ (h : Hosted). h .kept) e,
-      ap (λ (h : Hosted). h .store) e,
-      ap (λ (h : Hosted). h .output) e,
-    )
+    let n = not-encoded k (sym (c .before .before .is-encoded .ensures) ∙ not-true _ (c .before .if2 .taken)) in
+    refuses _ _ k _ _ _ (c .refused2 .ensures) (no-bank k (a .store .now) (a .output .now) (callOf (a .letter) (a .offset) (a .first) (a .second)) n)
 
 step-requires : tie.Need-step-requires
 step-requires c κs =
-    let a = c .before .before .before .before .before .before .before .before .before .before .before .before .before .before .before .before .before .before .before .before .before .args in
+    let coded = c .before .before .before .before .before .before .before in
+    let sized = coded .before .before .before in
+    let a = sized .before .before .before .before .before .before .before .before .before .before .before .args in
     let k = kept (a .image .now) (a .flags .now) (a .commands .now) (a .payloads .now) in
-    let s = sym (c .before .before .before .before .before .before .before .before .before .before .is-sized .ensures) ∙ not-false _ (c .before .before .before .before .before .before .before .before .before .if1 .left) in
-    (long k s, s, sym (c .before .before .before .before .before .before .before .is-encoded .ensures) ∙ not-false _ (c .before .before .before .before .before .before .if2 .left))
+    let s = sym (sized .is-sized .ensures) ∙ not-false _ (c .before .before .before .before .before .before .before .before .before .if1 .left) in
+    (long k s, s, sym (coded .is-encoded .ensures) ∙ not-false _ (c .before .before .before .before .before .before .if2 .left))
 
 same-length-3 : tie.Need-same-length-3
 same-length-3 c = search needs

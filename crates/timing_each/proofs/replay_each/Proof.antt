@@ -7,9 +7,8 @@ use borrow.Author.Needs.{needs}
 use Rattle.bank.specs.declared.Bank.{Bank}
 use Rattle.answer.specs.Given.{controller}
 use Rattle.trace_model.specs.Format.{section}
-use Rattle.playback_model.specs.declared.Report.{Report}
 use Rattle.playback_model.specs.Replay.{Replay, replayOf}
-use Rattle.timing.specs.Timing.{keptIn}
+use Rattle.timing.specs.Timing.{keptIn, timed}
 use Rattle.timing_each.proofs.Records.{unnumbered, same}
 use Rattle.timing_each.proofs.replay_each.Statement.{statement}
 use Rattle.timing_each.proofs.replay_each.Tie as tie
@@ -47,11 +46,10 @@ returns c =
     let a = section .before .before .before .before .before .args in
     let t = told .replay-records .ensures in
     let e = same (a .file .now) _ (controller (fresh .result) (a .store .now) []) _ _ refl (section .section .ensures .0) (whole .0) (whole .1)
-    ∙ ap (λ (b : Bank). unnumbered (replayOf (a .file .now) 0 (length (a .file .now)) (controller b (a .store .now) []))) (fresh .ensures) in (
-      ap (λ (x : Report). x .count % 2 ^ 32) (t .0) ∙ ap (λ (x : Replay). x .told .count % 2 ^ 32) e,
-      t .1 ∙ ap (λ (x : Replay). x .left .store) e,
-      c .before .before .before .keep .ensures ∙ ap (λ (x : Report). keptIn (a .last .now) (x .answer)) (t .0) ∙ ap (λ (x : Replay). keptIn (a .last .now) (x .told .answer)) e,
-    )
+    ∙ ap (λ (b : Bank). unnumbered (replayOf (a .file .now) 0 (length (a .file .now)) (controller b (a .store .now) []))) (fresh .ensures) in
+    ap (timed _ _) (c .before .before .before .keep .ensures)
+    ∙ (λ i. timed (t .0 i .count % 2 ^ 32) (t .1 i) (keptIn (a .last .now) (t .0 i .answer)))
+    ∙ ap (λ (x : Replay). timed (x .told .count % 2 ^ 32) (x .left .store) (keptIn (a .last .now) (x .told .answer))) e
 
 pub replay-each-spec : {M : Type 1} → statement M
 replay-each-spec =

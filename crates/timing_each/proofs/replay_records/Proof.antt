@@ -7,8 +7,9 @@ use borrow.Author.Needs.{needs}
 use Rattle.answer.specs.Given.{controller}
 use Rattle.record_model.specs.Record.{eachRecord}
 use Rattle.record_model.proofs.Each.{starts}
+use Rattle.record_model.proofs.Kept.{store-kept, output-kept}
 use Rattle.playback_model.specs.Replay.{telling, replayBegun, did, wrong}
-use Rattle.timing_each.proofs.Records.{store-kept, output-kept, record-done, wrong-told, wrong-left, done-told, done-left}
+use Rattle.timing_each.proofs.Records.{record-done, wrong-told, wrong-left, done-told, done-left}
 use Rattle.timing_each.proofs.replay_records.Statement.{statement}
 use Rattle.timing_each.proofs.replay_records.Tie as tie
 
@@ -54,13 +55,14 @@ loop-again : tie.Need-loop-again Inv-loop μ-loop
 loop-again c =
     let made = c .before .before .before .before .before in
     let k = made .before .before .before .before in
-    let taken = k .before .before .before in (
+    let taken = k .before .before .before in
+    let inv = taken .before .loop .inv in (
       search needs,
       search needs,
       search needs,
-      search (store-kept, made .step-once .ensures),
-      search (output-kept, made .step-once .ensures),
-      search (record-done, made .step-once .ensures, k .named .given .1, k .before .before .at .ensures, taken .loop-test .taken, taken .before .loop .inv .5),
+      store-kept _ _ _ _ (made .step-once .ensures) (inv .3),
+      output-kept _ _ _ _ (made .step-once .ensures) (inv .4),
+      search (record-done, made .step-once .ensures, k .named .given .1, k .before .before .at .ensures, taken .loop-test .taken, inv .5),
     )
 
 same-length-2 : tie.Need-same-length-2 Inv-loop μ-loop

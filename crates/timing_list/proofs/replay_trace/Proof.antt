@@ -6,7 +6,7 @@ use lib.ListN.{length}
 use Rattle.bank.specs.declared.Bank.{Bank}
 use Rattle.answer.specs.Given.{controller}
 use Rattle.playback_model.specs.Replay.{Replay, replayOf}
-use Rattle.timing.specs.Timing.{keptIn}
+use Rattle.timing.specs.Timing.{keptIn, timed}
 use borrow.Author.Needs.{needs}
 use Rattle.timing_list.proofs.replay_trace.Statement.{statement}
 use Rattle.timing_list.proofs.replay_trace.Tie as tie
@@ -35,11 +35,8 @@ returns c =
     let fresh = once .before .before in
     let a = fresh .before .before .before .before .args in
     let e = once .replay-once .ensures
-    ∙ ap (λ (b : Bank). replayOf (a .file .now) 0 (length (a .file .now)) (controller b (a .store .now) [])) (fresh .fresh .ensures) in (
-      ap (λ (x : Replay). x .told .count % 2 ^ 32) e,
-      ap (λ (x : Replay). x .left .store) e,
-      c .before .before .before .keep .ensures ∙ ap (λ (x : Replay). keptIn (a .last .now) (x .told .answer)) e,
-    )
+    ∙ ap (λ (b : Bank). replayOf (a .file .now) 0 (length (a .file .now)) (controller b (a .store .now) [])) (fresh .fresh .ensures) in
+    ap (timed _ _) (c .before .before .before .keep .ensures) ∙ ap (λ (x : Replay). timed (x .told .count % 2 ^ 32) (x .left .store) (keptIn (a .last .now) (x .told .answer))) e
 
 pub replay-trace-spec : {M : Type 1} → statement M
 replay-trace-spec =

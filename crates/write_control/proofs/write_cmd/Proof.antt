@@ -23,7 +23,11 @@ done-requires c κs = search needs
 returns : tie.Need-returns
 returns c =
     let a = c .before .before .before .before .before .args in
-    λ t f. c .done .ensures t ∙ rw (c .before .on-cmd .ensures) (let s = seen (a .st) t f in made-row (λ v. write (row CmdFifo) v (a .x)) s (λ n k. unchanged s withNumber n withQueues only Cmd (cond k (push (a .x)) keep)) _ refl (c .before .before .before .before .push-number .ensures) refl (λ m. refl))
+    let number = c .before .before .before .before .push-number .ensures in
+    λ t f.
+    let s = seen (a .st) t f in
+    let x = a .x in
+    c .done .ensures t ∙ rw (c .before .on-cmd .ensures) (made-row (λ v. write (row CmdFifo) v x) s (λ n k. unchanged s withNumber n withQueues only Cmd (cond k (push x) keep)) _ refl number refl (λ m. refl))
 
 pub write-cmd-spec : {M : Type 1} → statement M
 write-cmd-spec = tie.close (tie.spec push-number-requires on-cmd-requires done-requires returns)

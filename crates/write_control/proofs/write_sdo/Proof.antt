@@ -23,7 +23,12 @@ done-requires c κs = search needs
 returns : tie.Need-returns
 returns c =
     let a = c .before .before .before .before .before .before .args in
-    λ t f. c .done .ensures t ∙ rw (c .before .on-sdo .ensures) (let s = seen (a .st) t f in made-row (λ v. write (row SdoFifo) v (a .x)) s (λ n k. unchanged s withNumber n withControl clears Sdo k (a .st .control) withQueues only Sdo (cond k (push (a .x)) keep)) _ refl (c .before .before .before .before .before .push-number .ensures) refl (λ m. refl))
+    let number = c .before .before .before .before .before .push-number .ensures in
+    λ t f.
+    let s = seen (a .st) t f in
+    let x = a .x in
+    let k = a .st .control in
+    c .done .ensures t ∙ rw (c .before .on-sdo .ensures) (made-row (λ v. write (row SdoFifo) v x) s (λ n p. unchanged s withNumber n withControl clears Sdo p k withQueues only Sdo (cond p (push x) keep)) _ refl number refl (λ m. refl))
 
 pub write-sdo-spec : {M : Type 1} → statement M
 write-sdo-spec = tie.close (tie.spec push-number-requires on-sdo-requires done-requires returns)

@@ -1,14 +1,11 @@
 //! The archive for hosts through its crate, `bindings/rust`: a replay by one call, and by a call for
 //! each record.
 
+use crate::each::each;
 use bench::plain::replay::Ran;
 use bench::plain::Answer;
-use bench::trace::file::RECORD;
 use std::mem;
-use thymewax::{Model, Number, Queue, SetUp};
-
-/// The letter of the trigger: a call, but none that a record names.
-const TRIGGER: u8 = b'G';
+use thymewax::{Model, Queue, SetUp};
 
 /// The set-up of `Work::bank`.
 fn set_up(cap: u32) -> SetUp {
@@ -47,40 +44,14 @@ pub fn replay(cap: u32, store: &mut Vec<u32>, file: &[u8]) -> Ran {
     })
 }
 
-/// Section 0 by a call for each record, up to the first that is not right. The call tests all of a
-/// record but its second byte, and takes the trigger.
+/// Section 0 by a call for each record; none if it is refused.
 pub fn step_by_step(cap: u32, store: &mut Vec<u32>, file: &[u8]) -> Ran {
+    let section = thymewax::section(file, 0).unwrap_or_default();
     on_model(cap, store, |model| {
-        let mut ran = Ran::NONE;
-        for record in section(file) {
-            if record[0] == TRIGGER || record[1] != 0 {
-                break;
-            }
-            let answer = step(model, record);
-            if answer.number == Number::WRONG_RECORD {
-                break;
-            }
-            ran.answer = told(answer);
-            ran.made += 1;
-        }
-        ran
+        each(section.as_chunks().0, |letter, offset, first, second| {
+            told(model.step_numbers(letter, offset, first, second))
+        })
     })
-}
-
-/// One exported call, by the numbers of a record.
-fn step(model: &mut Model, record: &[u8; RECORD]) -> thymewax::Answer {
-    let &[letter, _, o0, o1, a0, a1, a2, a3, b0, b1, b2, b3] = record;
-    model.step_numbers(
-        letter,
-        u16::from_le_bytes([o0, o1]),
-        u32::from_le_bytes([a0, a1, a2, a3]),
-        u32::from_le_bytes([b0, b1, b2, b3]),
-    )
-}
-
-/// The records of section 0, none if it is refused.
-fn section(file: &[u8]) -> &[[u8; RECORD]] {
-    thymewax::section(file, 0).unwrap_or_default().as_chunks().0
 }
 
 /// As the plain engine has it.

@@ -2,6 +2,8 @@
 //! several processes and prints tables. `bench [PROCESSES [LIST]]`: 5 processes and every list where
 //! none is given.
 
+mod called;
+mod each;
 mod host;
 mod measure;
 mod model;

@@ -41,10 +41,13 @@ pub fn measure(work: &Work, variant: &Variant) -> [Times; 2] {
     let mut store = work.store();
     for _ in 0..RUNS {
         plain.push(time(&work.trace, &mut store, |store, file| {
-            black_box(work.replay_plain(store, file));
+            match variant.plain {
+                None => _ = black_box(work.replay_plain(store, file)),
+                Some(plain) => _ = black_box(plain(work.cap, store, file)),
+            }
         }));
         model.push(time(&work.trace, &mut store, |store, file| {
-            black_box(variant.replay(work.cap, store, file));
+            black_box((variant.model)(work.cap, store, file));
         }));
     }
     [Times::of(plain), Times::of(model)]

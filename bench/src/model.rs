@@ -1,7 +1,7 @@
 //! The proved model: the functions of the archives that `rt staticlib timing_list` and
 //! `rt staticlib timing_each` write, and the ways to replay a trace by them and by libthymewax.a.
 
-use crate::host;
+use crate::{called, host};
 use bench::plain::replay::Ran;
 use bench::plain::Answer;
 
@@ -35,37 +35,43 @@ extern "C" {
     ) -> u32;
 }
 
-/// One way to replay a trace.
+/// Sets up a bank with every capacity as given and replays section 0 of a trace file.
+pub type Way = fn(u32, &mut Vec<u32>, &[u8]) -> Ran;
+
+/// A way of the model, and one of the plain engine where that is not its replay.
 pub struct Variant {
     pub name: &'static str,
-    run: fn(u32, &mut Vec<u32>, &[u8]) -> Ran,
+    pub model: Way,
+    pub plain: Option<Way>,
 }
 
-pub const VARIANTS: [Variant; 4] = [
+pub const VARIANTS: [Variant; 5] = [
     Variant {
         name: "one call for the trace",
-        run: |cap, store, file| timed(replay_trace, cap, store, file),
+        model: |cap, store, file| timed(replay_trace, cap, store, file),
+        plain: None,
     },
     Variant {
         name: "record by record",
-        run: |cap, store, file| timed(replay_each, cap, store, file),
+        model: |cap, store, file| timed(replay_each, cap, store, file),
+        plain: None,
     },
     Variant {
         name: "libthymewax: one call for the trace",
-        run: host::replay,
+        model: host::replay,
+        plain: None,
     },
     Variant {
         name: "libthymewax: a call for each record",
-        run: host::step_by_step,
+        model: host::step_by_step,
+        plain: None,
+    },
+    Variant {
+        name: "libthymewax: a call for each record, and of the plain engine too",
+        model: host::step_by_step,
+        plain: Some(called::step_by_step),
     },
 ];
-
-impl Variant {
-    /// Sets up a bank with every capacity `cap` and replays section 0 of a trace file.
-    pub fn replay(&self, cap: u32, store: &mut Vec<u32>, file: &[u8]) -> Ran {
-        (self.run)(cap, store, file)
-    }
-}
 
 /// A replay by a function of the timing archives.
 fn timed(exported: Exported, cap: u32, store: &mut [u32], file: &[u8]) -> Ran {

@@ -54,7 +54,7 @@ const NOT_ACKNOWLEDGED: u32 = 17;
 const OUT_OF_RANGE: u32 = 18;
 const WRONG_PARITY: u32 = 19;
 const NOT_ATTACHED: u32 = 20;
-const NOT_WELL_FORMED: u32 = 21;
+pub const NOT_WELL_FORMED: u32 = 21;
 const WRONG_STORE: u32 = 22;
 
 // The pending bits, at their places in IRQ_SOURCE.
@@ -157,7 +157,7 @@ impl Bank {
 
     /// Apart from the calls, which then have the registers to themselves.
     #[inline(never)]
-    fn is_well_formed(&self) -> bool {
+    pub fn is_well_formed(&self) -> bool {
         self.are_rings_ok()
             && (self.ops < 128)
                 & (self.config < 4)

@@ -17,13 +17,18 @@ pub enum Call {
 }
 
 impl Call {
-    /// The call that a record names, if the record is right. Each letter gathers what must be 0, its
-    /// unused fields and the bits above a byte, for one test of all.
+    /// The call that a record names, if the record is right.
     pub fn of(record: &[u8; RECORD]) -> Option<Call> {
         let &[letter, zero, o0, o1, a0, a1, a2, a3, b0, b1, b2, b3] = record;
         let offset = u16::from_le_bytes([o0, o1]);
         let first = u32::from_le_bytes([a0, a1, a2, a3]);
         let second = u32::from_le_bytes([b0, b1, b2, b3]);
+        Call::named(letter, zero, offset, first, second)
+    }
+
+    /// The call of a record's numbers. Each letter gathers what must be 0, its unused fields and the
+    /// bits above a byte, for one test of all.
+    pub fn named(letter: u8, zero: u8, offset: u16, first: u32, second: u32) -> Option<Call> {
         // The offset, for a letter that has none.
         let unused = u32::from(offset);
         let (call, rest) = match letter {

@@ -4,7 +4,7 @@ use super::call::Call;
 use super::{file, Answer, Bank};
 
 /// 02's number of a record that is not right.
-const WRONG_RECORD: u32 = 27;
+pub const WRONG_RECORD: u32 = 27;
 
 /// How many records were done, and the last one's answer.
 #[derive(Clone, Copy, Debug, PartialEq, Eq)]

@@ -35,6 +35,9 @@ enum-known-c c = search needs
 step-parts-requires : tie.Need-step-parts-requires Inv-loop μ-loop
 step-parts-requires c κs = search needs
 
+by-field-requires : tie.Need-by-field-requires Inv-loop μ-loop
+by-field-requires c κs = search needs
+
 enum-told : tie.Need-enum-told Inv-loop μ-loop
 enum-told c = search needs
 
@@ -65,14 +68,15 @@ loop-again c =
     let g = turn c in
     let taken = g .before .before .before in
     let left = taken .before .loop .inv .6 in
-    let made = c .before .before .before .before .before .before .before .step-parts .ensures in (
+    let made = c .before .before .before .before .before .before .before .step-parts .ensures in
+    let same = c .before .before .by-field .ensures in (
       search needs,
       search needs,
       search needs,
       search (store-kept, made),
       search (output-kept, made),
-      search (fault-kept, made),
-      search (record-done, made, g .c .given .1, g .before .before .at .ensures, taken .loop-test .taken, left),
+      search (fault-kept, made, same),
+      search (record-done, made, same, g .c .given .1, g .before .before .at .ensures, taken .loop-test .taken, left),
     )
 
 reach-requires : tie.Need-reach-requires Inv-loop μ-loop
@@ -97,6 +101,7 @@ replay-parts-spec =
     at-requires
     enum-known-c
     step-parts-requires
+    by-field-requires
     enum-told
     stopped-requires
     same-length

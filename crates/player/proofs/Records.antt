@@ -5,6 +5,7 @@ use mathlib.Core.Path.{_≡_, ap, sym, _∙_}
 use mathlib.Core.List.{List}
 use lib.ListN.{length}
 use Rattle.bank.specs.declared.Answer.{Answer}
+use Rattle.bank.specs.declared.State.{State}
 use Rattle.model.specs.declared.Call.{Call}
 use Rattle.model.specs.Engine.{Step, step}
 use Rattle.model.specs.Rings.{Controller, rings}
@@ -21,17 +22,22 @@ use Rattle.playback_model.specs.Replay.{Replay, telling, replayBegun, did, wron
 
 -- a call that is made keeps what the two tests say
 module _ (l : Controller) (k : Call) (y : Next) (flags commands payloads output store : List ℕ) (made : given y (tables flags commands payloads output) store ≡ step rings l k) where
-  pub fault-kept : (fault : ℕ) → fault ≡ faultNumber (l .bank) (length (l .store))
-      → fault ≡ faultNumber (bankWith (y .state) (y .heads) (tables flags commands payloads output)) (length store)
-  fault-kept fault e = e ∙ sym (kept l k) ∙ ap (λ (x : Step Controller). faultNumber (x .next .bank) (length (x .next .store))) (sym made)
+  pub fault-kept : (s : State) (fault : ℕ) → s ≡ y .state → fault ≡ faultNumber (l .bank) (length (l .store))
+      → fault ≡ faultNumber (bankWith s (y .heads) (tables flags commands payloads output)) (length store)
+  fault-kept s fault same e =
+      e
+      ∙ sym (kept l k)
+      ∙ ap (λ (x : Step Controller). faultNumber (x .next .bank) (length (x .next .store))) (sym made)
+      ∙ ap (λ (x : State). faultNumber (bankWith x (y .heads) (tables flags commands payloads output)) (length store)) (sym same)
 
   -- and the records after it give what it and they gave
-  pub record-done : (n i : ℕ) (bytes : List ℕ) (a : Answer) (all : Replay) (found : Parsed) → i < n → found ≡ recordAt bytes i → found ≡ Named k
+  pub record-done : (s : State) (n i : ℕ) (bytes : List ℕ) (a : Answer) (all : Replay) (found : Parsed) → s ≡ y .state → i < n → found ≡ recordAt bytes i → found ≡ Named k
       → eachRecord did wrong (n - i) bytes i (telling 0 i a l) ≡ all
-      → eachRecord did wrong (n - (i + 1)) bytes (i + 1) (telling 0 (i + 1) (y .answer) (controller (bankWith (y .state) (y .heads) (tables flags commands payloads output)) store output)) ≡ all
-  record-done n i bytes a all found h e f g =
+      → eachRecord did wrong (n - (i + 1)) bytes (i + 1) (telling 0 (i + 1) (y .answer) (controller (bankWith s (y .heads) (tables flags commands payloads output)) store output)) ≡ all
+  record-done s n i bytes a all found same h e f g =
       let j : i + 1 ≡ suc i = omega arith in
-      ap (λ (x : Step Controller). eachRecord did wrong (n - (i + 1)) bytes (i + 1) (telling 0 (i + 1) (x .answer) (x .next))) made
+      ap (λ (x : State). eachRecord did wrong (n - (i + 1)) bytes (i + 1) (telling 0 (i + 1) (y .answer) (controller (bankWith x (y .heads) (tables flags commands payloads output)) store output))) same
+      ∙ ap (λ (x : Step Controller). eachRecord did wrong (n - (i + 1)) bytes (i + 1) (telling 0 (i + 1) (x .answer) (x .next))) made
       ∙ ap (λ (m : ℕ). eachRecord did wrong (n - (i + 1)) bytes (i + 1) (telling 0 m (step rings l k .answer) (step rings l k .next))) j
       ∙ goes did wrong n i bytes (telling 0 i a l) k h (sym e ∙ f)
       ∙ g

@@ -19,6 +19,15 @@ use letters::Parsed;
 use replayed::Reached;
 use replayed::Replayed;
 
+// A state put together field by field (see `bank::state_with`): as one piece, two pairs of levels stay packed from record
+// to record.
+fn by_field(s: State) -> State
+    ensures { λ r. ⌜ r ≡ s ⌝ }
+{
+    let p = s.phase;
+    bank::state_with(s.caps, s.levels, s.regs, s.control, p)
+}
+
 // The first `n` records, on a state and its lent tables: a layer, no interface.
 pub fn replay_parts(
     st: State,
@@ -45,7 +54,7 @@ pub fn replay_parts(
         match record::at(records, i) {
             Parsed::Named(c) => {
                 let y = serve::step_parts(s, h, flags, commands, payloads, store, output, fault, c);
-                s = y.state;
+                s = by_field(y.state);
                 h = y.heads;
                 a = y.answer;
             }

@@ -36,6 +36,9 @@ enum-known-c c = search needs
 step-parts-requires : tie.Need-step-parts-requires Inv-loop μ-loop
 step-parts-requires c κs = search needs
 
+by-field-requires : tie.Need-by-field-requires Inv-loop μ-loop
+by-field-requires c κs = search needs
+
 enum-told : tie.Need-enum-told Inv-loop μ-loop
 enum-told c = search needs
 
@@ -66,14 +69,15 @@ loop-again c =
     let g = turn c in
     let taken = g .before .before .before in
     let inv = taken .before .loop .inv in
-    let made = c .before .before .before .before .before .before .before .step-parts .ensures in (
+    let made = c .before .before .before .before .before .before .before .step-parts .ensures in
+    let same = c .before .before .by-field .ensures in (
       search needs,
       search needs,
       search needs,
       store-kept _ _ _ _ made (inv .3),
       output-kept _ _ _ _ made (inv .4),
-      search (fault-kept, made),
-      search (record-done, made, g .c .given .1, g .before .before .at .ensures, taken .loop-test .taken, inv .6),
+      search (fault-kept, made, same),
+      search (record-done, made, same, g .c .given .1, g .before .before .at .ensures, taken .loop-test .taken, inv .6),
     )
 
 reach-requires : tie.Need-reach-requires Inv-loop μ-loop
@@ -98,6 +102,7 @@ replay-parts-spec =
     at-requires
     enum-known-c
     step-parts-requires
+    by-field-requires
     enum-told
     stopped-requires
     same-length

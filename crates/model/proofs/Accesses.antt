@@ -15,8 +15,8 @@ use Rattle.registers.specs.Map.{registerAt}
 use Rattle.model.specs.declared.Call.{Call}
 use Rattle.model.specs.declared.Call.the-variants.{Read, Write, Start, Send, Receive, Finish, Interrupt, Request, Take, Trigger}
 use Rattle.model.specs.View.{Queue, Cmd, Cmdr, Sdo, Sdi, Ibi, of, empty}
-use Rattle.model.specs.Decision.{Effect, Decision, does, first, effect}
-use Rattle.model.specs.Registers.{Cell, scratch, mask, ops, ibiConfig, devChar, watermark, offloadCmd, offloadSdo, Row, absent, shows, holds, pushes, takes, enables, acknowledges, row, shown, enable, read, write}
+use Rattle.model.specs.Decision.{Decision, does, first, effect}
+use Rattle.model.specs.Registers.{Cell, scratch, mask, ops, ibiConfig, devChar, watermark, offloadCmd, offloadSdo, Row, absent, shows, holds, pushes, takes, enables, acknowledges, row, taken, shownAgain, shown, enable, read, write}
 use Rattle.model.specs.Bursts.{decide}
 use Rattle.model.specs.Engine.{Step, outcome, step}
 use Rattle.model.specs.Rings.{Controller, viewRings, settleRings, guardRings, rings}
@@ -99,21 +99,37 @@ module _ (l : Controller) (o : List ℕ) where
   shown-same (offloadCmd i) = refl
   shown-same (offloadSdo i) = refl
 
+  again-blind : (q : Queue) → Blind (does (shownAgain q (viewRings l))) (does (shownAgain q (viewRings m)))
+  again-blind q = blind (does (shownAgain q (viewRings l))) (does (shownAgain q (viewRings m))) refl refl refl refl
+
+  taken-blind : (q : Queue) → Blind (does (taken q (viewRings l))) (does (taken q (viewRings m)))
+  taken-blind Cmd = blind (does (taken Cmd (viewRings l))) (does (taken Cmd (viewRings m))) refl refl refl refl
+  taken-blind Cmdr = blind (does (taken Cmdr (viewRings l))) (does (taken Cmdr (viewRings m))) refl refl refl refl
+  taken-blind Sdo = blind (does (taken Sdo (viewRings l))) (does (taken Sdo (viewRings m))) refl refl refl refl
+  taken-blind Sdi = blind (does (taken Sdi (viewRings l))) (does (taken Sdi (viewRings m))) refl refl refl refl
+  taken-blind Ibi = blind (does (taken Ibi (viewRings l))) (does (taken Ibi (viewRings m))) refl refl refl refl
+
+  levels-same : (q : Queue) → empty (of q (viewRings m .queues)) ≡ empty (of q (viewRings l .queues))
+  levels-same Cmd = refl
+  levels-same Cmdr = refl
+  levels-same Sdo = refl
+  levels-same Sdi = refl
+  levels-same Ibi = refl
+
   -- both views have the same levels, so both reads show a word again or both take one
-  two-blind : (b : Bool) (v w v′ w′ : Effect) → Blind (does v) (does v′) → Blind (does w) (does w′) → Blind (cond b (does v) (does w)) (cond b (does v′) (does w′))
-  two-blind true v w v′ w′ f g = f
-  two-blind false v w v′ w′ f g = g
+  take-blind : (q : Queue) → Blind (read (takes q) (viewRings l)) (read (takes q) (viewRings m))
+  take-blind q = rw (levels-same q) (both (empty (of q (viewRings l .queues))))
+    where
+      both : (b : Bool) → Blind (cond b (does (shownAgain q (viewRings l))) (does (taken q (viewRings l)))) (cond b (does (shownAgain q (viewRings m))) (does (taken q (viewRings m))))
+      both true = again-blind q
+      both false = taken-blind q
 
   read-blind : (x : Row) → Shows x → Blind (read x (viewRings l)) (read x (viewRings m))
   read-blind absent h = blind _ _ refl refl refl refl
   read-blind (shows f) h = blind _ _ refl h refl refl
   read-blind (holds c) h = blind _ _ refl (shown-same c) refl refl
   read-blind (pushes q) h = blind _ _ refl refl refl refl
-  read-blind (takes Cmd) h = two-blind (empty (of Cmd (viewRings l .queues))) _ _ _ _ (blind _ _ refl refl refl refl) (blind _ _ refl refl refl refl)
-  read-blind (takes Cmdr) h = two-blind (empty (of Cmdr (viewRings l .queues))) _ _ _ _ (blind _ _ refl refl refl refl) (blind _ _ refl refl refl refl)
-  read-blind (takes Sdo) h = two-blind (empty (of Sdo (viewRings l .queues))) _ _ _ _ (blind _ _ refl refl refl refl) (blind _ _ refl refl refl refl)
-  read-blind (takes Sdi) h = two-blind (empty (of Sdi (viewRings l .queues))) _ _ _ _ (blind _ _ refl refl refl refl) (blind _ _ refl refl refl refl)
-  read-blind (takes Ibi) h = two-blind (empty (of Ibi (viewRings l .queues))) _ _ _ _ (blind _ _ refl refl refl refl) (blind _ _ refl refl refl refl)
+  read-blind (takes q) h = take-blind q
   read-blind enables h = blind _ _ refl refl refl refl
   read-blind acknowledges h = blind _ _ refl refl refl refl
 

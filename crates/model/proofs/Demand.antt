@@ -78,7 +78,11 @@ never-released (c ∷ cs) l h z =
 fresh-kept : (caps marks : Sizes) (id : ℕ) → setUp caps marks id .answer .number ≡ 0 → Kept none (freshLists caps marks id)
 fresh-kept caps marks id n =
     record {
-      good = subst (λ (b : Bank). HeldIn (record { held = b .state .control .held; cap = caps .cmd; phase = directPhase (b .state .control) (b .state .phase); cmd = []; cmdr = []; sync = b .state .control .sync })) (sym (bank-is caps marks id n)) (record { isHeld = refl; isIdle = refl; noCommands = refl; noReceipts = refl; noSync = refl });
+      good =
+          subst
+          (λ (b : Bank). HeldIn (record { held = b .state .control .held; cap = caps .cmd; phase = directPhase (b .state .control) (b .state .phase); cmd = []; cmdr = []; sync = b .state .control .sync }))
+          (sym (bank-is caps marks id n))
+          (record { isHeld = refl; isIdle = refl; noCommands = refl; noReceipts = refl; noSync = refl });
       steady = subst (λ (b : Bank). Steady (b .state .control) (b .state .phase)) (sym (bank-is caps marks id n)) (λ e. absurd (false≢true e));
     }
 

@@ -380,7 +380,9 @@ by-room : (g : Bool) (x : Effect) (l m : Controller) (v : ℕ) → x .number ≡
 by-room true x l m v z e = refl
 by-room false x l m v z e = λ i. record { value = e i; number = z i }
 
-by-tests : (a b c d e f g : Bool) (x : Effect) (l m : Controller) (v : ℕ) → x .number ≡ 0 → x .value ≡ v → a ≡ false → b ≡ false → c ≡ false → d ≡ false → e ≡ false → f ≡ false → outcome (first (tests a b c d e f g x)) x l m .answer ≡ cond g (record { value = 0; number = 13 }) (record { value = v; number = 0 })
+by-tests : (a b c d e f g : Bool) (x : Effect) (l m : Controller) (v : ℕ) → x .number ≡ 0 → x .value ≡ v
+    → a ≡ false → b ≡ false → c ≡ false → d ≡ false → e ≡ false → f ≡ false
+    → outcome (first (tests a b c d e f g x)) x l m .answer ≡ cond g (record { value = 0; number = 13 }) (record { value = v; number = 0 })
 by-tests a b c d e f g x l m v z w ha hb hc hd he hf = rw (ha, hb, hc, hd, he, hf) (by-room g x l m v z w)
 
 again : (l m : Controller) (code : ℕ) → bursting (l .bank .state .control) ≡ false → SameRun l m → wellFormed (m .bank) ≡ true → RightLength m → (let s = l .bank .state in (ltb 15 code ≡ false) × (s .control .held ≡ false) × (idle (s .phase) ≡ false) × (not (allowed (s .phase) code) ≡ false))
@@ -394,7 +396,8 @@ again l m code n k f z h =
     ∙ by-tests (not (wellFormed (m .bank))) (not (eqb (length (m .store)) (total (s .caps)))) (ltb 15 code) (s .control .held) (idle (s .phase)) (not (allowed (s .phase) code)) (finishLacksRoom (viewRings m)) x m (settleRings m x) _ refl word
     (ap not f) (ap not (eq-eqb (length (m .store)) (total (s .caps)) z)) (h .0) (k .held ∙ h .1) (ap idle (k .phase) ∙ h .2) (ap (λ (p : Phase). not (allowed p code)) (k .phase) ∙ h .3)
 
-finish-tests : (l : Controller) (code : ℕ) → bursting (l .bank .state .control) ≡ false → step rings l (Finish code) .answer .number ≡ 13 → (wellFormed (l .bank) ≡ true) × RightLength l × (let s = l .bank .state in (ltb 15 code ≡ false) × (s .control .held ≡ false) × (idle (s .phase) ≡ false) × (not (allowed (s .phase) code) ≡ false))
+finish-tests : (l : Controller) (code : ℕ) → bursting (l .bank .state .control) ≡ false → step rings l (Finish code) .answer .number ≡ 13
+    → (wellFormed (l .bank) ≡ true) × RightLength l × (let s = l .bank .state in (ltb 15 code ≡ false) × (s .control .held ≡ false) × (idle (s .phase) ≡ false) × (not (allowed (s .phase) code) ≡ false))
 unfolding guardRings finish
 finish-tests l code b n =
     let s = l .bank .state in
@@ -410,6 +413,8 @@ refused-finish-again l code os b n =
     let h = finish-tests l code b n in
     let s = same-final (lending (l .output) (reads os)) l (listed l) (record { is = refl; formed = formed-of (l .bank) (h .0); size = h .1 }) in
     subst
-    (λ (p : Controller). (let m = final rings p (lending (l .output) (reads os)) in step rings m (Finish code) .answer ≡ cond (finishLacksRoom (viewRings m)) (record { value = 0; number = 13 }) (record { value = receiptWord code (transfer (l .bank .state .phase) .moved .0) (l .bank .state .control .sync); number = 0 })))
+    (λ (p : Controller).
+    (let m = final rings p (lending (l .output) (reads os)) in
+    step rings m (Finish code) .answer ≡ cond (finishLacksRoom (viewRings m)) (record { value = 0; number = 13 }) (record { value = receiptWord code (transfer (l .bank .state .phase) .moved .0) (l .bank .state .control .sync); number = 0 })))
     (sym sameQueue)
     (again l (final rings l (lending (l .output) (reads os))) code b (reads-keep os (l .output) l) (formed-is (final rings l (lending (l .output) (reads os)) .bank) (s .formed)) (s .size) (h .2))

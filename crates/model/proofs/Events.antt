@@ -169,7 +169,8 @@ start-good (some t) l f g =
       inv = inv-start (t .words) (t .past) (t .receipts) (l .queues .cmd .cap) (l .phase) (l .queues .cmd .words) (l .queues .cmdr .words) (l .control .sync) (t .now) _ (not-false _ (f .1 .0)) (not-false _ (f .1 .1 .1 .0)) (g .inv);
     }
 
-pub finish-good : (o : Option Tally) (l : Lists) (code : ℕ) → ltb 15 code ≡ false → Passed (finish (viewLists l) code) → Good o (direct l) → Good (follow o (bus (finished code (receiptWord code (transfer (l .phase) .moved .0) (l .control .sync))))) (direct (settleLists l (effect (finish (viewLists l) code))))
+pub finish-good : (o : Option Tally) (l : Lists) (code : ℕ) → ltb 15 code ≡ false → Passed (finish (viewLists l) code) → Good o (direct l)
+    → Good (follow o (bus (finished code (receiptWord code (transfer (l .phase) .moved .0) (l .control .sync))))) (direct (settleLists l (effect (finish (viewLists l) code))))
 unfolding finish
 finish-good none l code r f g = absurd (not-held (direct l) g (f .0))
 finish-good (some t) l code r f g =
@@ -195,9 +196,15 @@ receipt-good : (o : Option Tally) (l : Lists) → eqb (length (l .queues .cmdr .
 receipt-good none l f g = record { isHeld = g .isHeld; isIdle = g .isIdle; noCommands = g .noCommands; noReceipts = ap (λ (q : List ℕ). drop 1 q) (g .noReceipts); noSync = g .noSync }
 receipt-good (some t) l f g =
     let q = l .queues .cmdr .words in
+    let cap = l .queues .cmd .cap in
+    let words = l .queues .cmd .words in
+    let p = key l .phase in
+    let sync = l .control .sync in
     record {
       isReleased = g .isReleased;
-      inv = inv-got (t .words) (t .past) (t .now) (t .receipts) (l .queues .cmd .cap) (key l .phase) (l .queues .cmd .words) (drop 1 q) (getD q 0 0) (l .control .sync) (subst (λ (x : List ℕ). Inv (t .words) (t .past) (t .now) (t .receipts) (l .queues .cmd .cap) (key l .phase) (l .queues .cmd .words) x (l .control .sync)) (nonempty q f) (g .inv));
+      inv =
+          inv-got (t .words) (t .past) (t .now) (t .receipts) cap p words (drop 1 q) (getD q 0 0) sync
+          (subst (λ (x : List ℕ). Inv (t .words) (t .past) (t .now) (t .receipts) cap p words x sync) (nonempty q f) (g .inv));
     }
 
 quiet-read : (l : Lists) (x : Row) → quietRead x ≡ true → key l ≡ key (settleLists l (effect (read x (viewLists l))))

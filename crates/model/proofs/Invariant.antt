@@ -259,7 +259,8 @@ module _ (w : CmdLog) (past : List Run) (got : List ℕ) (cap : ℕ) (p : Phase)
   pub inv-room : (now : Option Run) → Inv w past now got cap p cmd cmdr sync → Inv (countWord w (sawRoom (cap - length cmd))) past now got cap p cmd cmdr sync
   inv-room now h = record { words = words-room w cap cmd (h .words); order = h .order; receipts = h .receipts }
 
-  pub inv-start : (now : Option Run) (a : Bool) → idle p ≡ true → whole (cmdView cap cmd) ≡ true → Inv w past now got cap p cmd cmdr sync → (let c = command (cmdView cap cmd) in Inv w (past ++ opt now) (some (newRun (firstWord c))) got cap (begun c a) (drop (wordCount (cmdView cap cmd)) cmd) cmdr sync)
+  pub inv-start : (now : Option Run) (a : Bool) → idle p ≡ true → whole (cmdView cap cmd) ≡ true → Inv w past now got cap p cmd cmdr sync
+      → (let c = command (cmdView cap cmd) in Inv w (past ++ opt now) (some (newRun (firstWord c))) got cap (begun c a) (drop (wordCount (cmdView cap cmd)) cmd) cmdr sync)
   inv-start now a i f h =
       let c = command (cmdView cap cmd) in
       let k = begins cap cmd f in
@@ -289,7 +290,9 @@ module _ (w : CmdLog) (past : List Run) (got : List ℕ) (cap : ℕ) (p : Phase)
       let o = h .order .isOpen .state in
       record {
         words = h .words;
-        order = order-finish (takenWords (w .written)) past r (countRun (finished code v) r) p cmd (h .order) (record { value = o .value; most = o .most; fitting = record { sends = o .fitting .sends; receives = o .fitting .receives; addresses = o .fitting .addresses }; ended = refl; receipt = (d, rw (o .counted, h .receipts .counted)) });
+        order =
+            order-finish (takenWords (w .written)) past r (countRun (finished code v) r) p cmd (h .order)
+            (record { value = o .value; most = o .most; fitting = record { sends = o .fitting .sends; receives = o .fitting .receives; addresses = o .fitting .addresses }; ended = refl; receipt = (d, rw (o .counted, h .receipts .counted)) });
         receipts = receipts-finish past got cmdr sync (countRun (finished code v) r) v refl (h .receipts);
       }
 

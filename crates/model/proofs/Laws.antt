@@ -253,7 +253,12 @@ keeps s (Write o v) k h = write-kept s (row (registerAt o)) v k h
 keeps s Start k h = kept-only Cmd _ k h
 keeps s Send k h = of-two (KeepsQueue k) (bursting (s .control)) (burstSend s) (send s) (λ e. kept-all k) (λ e. kept-only Sdo _ k h)
 keeps s (Receive b) k h = of-two (KeepsQueue k) (bursting (s .control)) (burstReceive s b) (receive s b) (λ e. kept-all k) (λ e. kept-only Sdi _ k h)
-keeps s (Finish code) k h = of-two (KeepsQueue k) (bursting (s .control)) (burstFinish s code) (finish s code) (λ e. kept-all k) (λ e. let r = or-right (sameQueue Cmdr k) (sameQueue Sdo k || sameQueue Sdi k) h in finish-kept _ _ _ k (or-left (sameQueue Cmdr k) (sameQueue Sdo k || sameQueue Sdi k) h) (or-left (sameQueue Sdo k) (sameQueue Sdi k) r) (or-right (sameQueue Sdo k) (sameQueue Sdi k) r))
+keeps s (Finish code) k h =
+    let payload = sameQueue Sdo k || sameQueue Sdi k in
+    let r = or-right (sameQueue Cmdr k) payload h in
+    of-two (KeepsQueue k) (bursting (s .control)) (burstFinish s code) (finish s code)
+    (λ e. kept-all k)
+    (λ e. finish-kept _ _ _ k (or-left (sameQueue Cmdr k) payload h) (or-left (sameQueue Sdo k) (sameQueue Sdi k) r) (or-right (sameQueue Sdo k) (sameQueue Sdi k) r))
 keeps s (Interrupt a b) k h = kept-only Ibi _ k h
 keeps s (Request v w) k h = kept-only Sdi _ k h
 keeps s Take k h = kept-only Sdo _ k h

@@ -360,7 +360,8 @@ module _ (s : View) (h : Opened s) where
       let w = getD (s .tables .commands) n 0 in
       go (lastCommand s) refl (attached s (Single w)) (b .mode) (b .carries)
     where
-      go : (z : Bool) → lastCommand s ≡ z → (a : Bool) → offloads (s .regs) ≡ true → allCarried (span (s .regs)) (s .tables .commands) ≡ true → openOk (burstAt (cond z 0 (s .control .burst + 1)) (s .control)) (s .regs) (cond z Idle (begun (Single (getD (s .tables .commands) (s .control .burst) 0)) a)) (s .tables .commands) ≡ true
+      go : (z : Bool) → lastCommand s ≡ z → (a : Bool) → offloads (s .regs) ≡ true → allCarried (span (s .regs)) (s .tables .commands) ≡ true
+          → openOk (burstAt (cond z 0 (s .control .burst + 1)) (s .control)) (s .regs) (cond z Idle (begun (Single (getD (s .tables .commands) (s .control .burst) 0)) a)) (s .tables .commands) ≡ true
       go true z a m k = direct-ok (burstAt 0 (s .control)) (s .regs) Idle (s .tables .commands) refl idle-ok
       go false z a m k = opened-ok (s .control) (s .regs) (s .tables .commands) (s .control .burst) a m k (leb-false (span (s .regs)) (s .control .burst) z)
 

@@ -112,7 +112,10 @@ decided s t code p b u =
 module _ (l : Controller) (code : ℕ) (f : Ready (queuesIn (l .bank)) (l .store)) (h : AllFit (finished (viewRings l) code .ops) (viewRings l .queues)) where
   other-queues : (k : Queue) → sameQueue Cmdr k ≡ false → sameQueue Sdo k ≡ false → (let m = settleRings l (finished (viewRings l) code) in (of k (areas (queuesIn (m .bank))) ≡ of k (areas (queuesIn (l .bank)))) × (heldWords k m ≡ heldWords k l))
   unfolding onRing
-  other-queues k a b = (base-same (queuesIn (l .bank)) (l .store) (finished (viewRings l) code .ops) f k ∙ ap (λ (o : QueueOp). onArea o (of k (areas (queuesIn (l .bank))))) (kept k a b), settled-words (queuesIn (l .bank)) (l .store) (finished (viewRings l) code .ops) f h k ∙ ap (λ (o : QueueOp). onWords o (heldWords k l)) (kept k a b))
+  other-queues k a b =
+      let q = queuesIn (l .bank) in
+      let ops = finished (viewRings l) code .ops in
+      (base-same q (l .store) ops f k ∙ ap (λ (o : QueueOp). onArea o (of k (areas q))) (kept k a b), settled-words q (l .store) ops f h k ∙ ap (λ (o : QueueOp). onWords o (heldWords k l)) (kept k a b))
     where
       kept : (k : Queue) → sameQueue Cmdr k ≡ false → sameQueue Sdo k ≡ false → of k (finished (viewRings l) code .ops) ≡ keep
       kept Cmd a b = refl

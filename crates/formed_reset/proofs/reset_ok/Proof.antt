@@ -31,7 +31,13 @@ is-idle-requires c κs = search needs
 
 returns-2 : tie.Need-returns-2
 unfolding resetOk
-returns-2 c = λ k. let a = c .before .before .before .before .before .args in asked (a .c .held) (queuesClear (queuesOf k (a .l) (a .h)) && controlClear (a .c) && idle (a .p)) _ (not-false _ (c .before .before .before .if1 .left)) (rw (c .is-idle .ensures, c .before .control-clear .ensures, c .before .before .queues-clear .ensures k))
+returns-2 c =
+    let queues = c .before .before in
+    let held = queues .before in
+    let a = held .before .before .args in
+    λ k.
+    asked (a .c .held) (queuesClear (queuesOf k (a .l) (a .h)) && controlClear (a .c) && idle (a .p)) _ (not-false _ (held .if1 .left))
+    (rw (c .is-idle .ensures, c .before .control-clear .ensures, queues .queues-clear .ensures k))
 
 pub reset-ok-spec : {M : Type 1} → statement M
 reset-ok-spec =

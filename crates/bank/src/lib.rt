@@ -5,6 +5,7 @@ ghost use mathlib.Core.Path.{_≡_};
 ghost use mathlib.Core.Bool.{cond};
 ghost use Prim.Native.Nat.{_+_};
 ghost use Prim.Native.Nat.{_-_};
+ghost use lib.ListN.{getD};
 ghost use Rattle.bank.specs.Bits.{bit};
 ghost use Rattle.bank.specs.SetUp.{sizeOk, marksOk, cleared, total};
 use ring::Bytes;
@@ -295,4 +296,14 @@ pub fn room(cap: u32, level: u32) -> u32
     ensures { λ n. ⌜ n ≡ cap - level ⌝ }
 {
     if level <= cap { cap - level } else { 0 }
+}
+
+// A word of a table, or 0 past its end.
+pub fn word_at(words: &[u32], i: usize) -> u32
+    ensures { λ w. ⌜ w ≡ getD (now (words .entry)) i 0 ⌝ }
+{
+    if i < words.len() {
+        return words[i];
+    }
+    0
 }

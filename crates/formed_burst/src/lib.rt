@@ -1,7 +1,6 @@
 // A part of well formed: the mode and the commands of an open burst, the place where it stands, and the transfer of the
 // command there (`formed.burst`).
 ghost use mathlib.Core.Path.{_≡_};
-ghost use lib.ListN.{getD};
 ghost use Rattle.bank.specs.Bursts.{place};
 ghost use Rattle.bank.specs.Formed.{burstOk};
 use bank::Control;
@@ -18,16 +17,6 @@ fn place_of(c: Control) -> usize
     (c.burst - 1) as usize
 }
 
-// A word of the offload commands, or 0 past their end.
-fn word_at(words: &[u32], k: usize) -> u32
-    ensures { λ w. ⌜ w ≡ getD (now (words .entry)) k 0 ⌝ }
-{
-    if k < words.len() {
-        return words[k];
-    }
-    0
-}
-
 // Whether an open burst is well formed.
 pub fn burst_ok(c: Control, g: Regs, p: Phase, commands: &[u32; 16]) -> bool
     ensures { λ b. ⌜ b ≡ burstOk c g p (now (commands .entry)) ⌝ }
@@ -35,7 +24,7 @@ pub fn burst_ok(c: Control, g: Regs, p: Phase, commands: &[u32; 16]) -> bool
     let span = burst_commands::span_of(g);
     let at = c.burst as usize;
     let k = place_of(c);
-    let w = word_at(commands, k);
+    let w = bank::word_at(commands, k);
     let t = phases::transfer_of(p);
     burst_commands::is_offload(g)
         & burst_commands::all_carried(commands, span)

@@ -53,8 +53,8 @@ pub fn read(
             read_rows::device_word(g.selected, read_rows::flags_at(flags, g.selected)),
         ),
         Register::Watermark(i) => show(st, watermarks::count_at(g.marks, i)),
-        Register::OffloadCmd(i) => show(st, read_rows::offload_word(commands, i)),
-        Register::OffloadSdo(i) => show(st, read_rows::offload_word(payloads, i)),
+        Register::OffloadCmd(i) => show(st, bank::word_at(commands, i as usize)),
+        Register::OffloadSdo(i) => show(st, bank::word_at(payloads, i as usize)),
         Register::Unmapped => effect::refuse(st, number::NO_REGISTER),
     }
 }

@@ -102,17 +102,6 @@ pub fn device_word(selected: u8, f: u8) -> u32
     wide(selected) * 0x200 + wide(f) * 2
 }
 
-// A word of an offload memory, or 0 past its end.
-pub fn offload_word(words: &[u32], i: u32) -> u32
-    ensures { λ r. ⌜ r ≡ getD (now (words .entry)) i 0 ⌝ }
-{
-    let at = i as usize;
-    if at < words.len() {
-        return words[at];
-    }
-    0
-}
-
 // A read that changes nothing (`map.reads`).
 pub fn show(st: State, value: u32) -> Effect
     ensures { λ e. ⌜ ((t : Tables) (f : Fronts) → effectOf e t ≡ (unchanged (seen st t f) withValue value)) ⌝ }

@@ -174,8 +174,11 @@ show-requires-18 c κs = search needs
 enum-known-r : tie.Need-enum-known-r
 enum-known-r c = search needs
 
-offload-word-requires : tie.Need-offload-word-requires
-offload-word-requires c κs = search needs
+cast-word-at : tie.Need-cast-word-at
+cast-word-at c = search needs
+
+word-at-requires : tie.Need-word-at-requires
+word-at-requires c κs = search needs
 
 show-requires-19 : tie.Need-show-requires-19
 show-requires-19 c κs = search needs
@@ -189,8 +192,11 @@ enum-known-r-3 c = search needs
 count-at-requires : tie.Need-count-at-requires
 count-at-requires c κs = search needs
 
-offload-word-requires-2 : tie.Need-offload-word-requires-2
-offload-word-requires-2 c κs = search needs
+cast-word-at-2 : tie.Need-cast-word-at-2
+cast-word-at-2 c = search needs
+
+word-at-requires-2 : tie.Need-word-at-requires-2
+word-at-requires-2 c κs = search needs
 
 show-requires-20 : tie.Need-show-requires-20
 show-requires-20 c κs = search needs
@@ -271,10 +277,10 @@ returns-22 : tie.Need-returns-22
 returns-22 c = λ o f. rw (c .before .before .before .r .given .1) (λ w. c .show19 .ensures _ f ∙ shown-row (Watermark (c .before .before .before .r .given .0 .0)) _ (c .before .count-at .ensures) refl)
 
 returns-23 : tie.Need-returns-23
-returns-23 c = λ o f. rw (c .before .before .before .before .r2 .given .1) (λ w. c .show20 .ensures _ f ∙ shown-row (OffloadCmd _) _ (c .before .offload-word .ensures) refl)
+returns-23 c = λ o f. rw (c .before .before .before .before .r2 .given .1) (λ w. c .show20 .ensures _ f ∙ shown-row (OffloadCmd _) _ (c .before .word-at .ensures) refl)
 
 returns-24 : tie.Need-returns-24
-returns-24 c = λ o f. rw (c .before .before .before .before .r3 .given .1) (λ w. c .show21 .ensures _ f ∙ shown-row (OffloadSdo _) _ (c .before .offload-word2 .ensures) refl)
+returns-24 c = λ o f. rw (c .before .before .before .before .r3 .given .1) (λ w. c .show21 .ensures _ f ∙ shown-row (OffloadSdo _) _ (c .before .word-at2 .ensures) refl)
 
 returns-25 : tie.Need-returns-25
 returns-25 c = λ o f. rw (c .before .enum-told22 .given .1) (λ w. c .refuse .ensures _ f ∙ refused-as (read (row Unmapped)) _ 4 (λ z. omega arith) refl)
@@ -341,10 +347,12 @@ read-spec =
     count-at-requires
     show-requires-19
     enum-known-r-2
-    offload-word-requires
+    cast-word-at
+    word-at-requires
     show-requires-20
     enum-known-r-3
-    offload-word-requires-2
+    cast-word-at-2
+    word-at-requires-2
     show-requires-21
     enum-told-22
     refuse-requires

@@ -1,10 +1,10 @@
--- `formed_burst::word_at` meets its contract.
+-- `bank::word_at` meets its contract.
 use denote.Ref.{now}
 use lib.ListN.{List·getD-eq-default}
 use mathlib.Core.Path.{sym}
 use borrow.Author.Needs.{needs}
-use Rattle.formed_burst.proofs.word_at.Statement.{statement}
-use Rattle.formed_burst.proofs.word_at.Tie as tie
+use Rattle.bank.proofs.word_at.Statement.{statement}
+use Rattle.bank.proofs.word_at.Tie as tie
 
 mul-result : tie.Need-mul-result
 mul-result c = search needs
@@ -16,7 +16,7 @@ returns : tie.Need-returns
 returns c = search needs
 
 returns-2 : tie.Need-returns-2
-returns-2 c = sym (List·getD-eq-default (now (c .before .args .words)) 0 {n = c .before .args .k} (search needs))
+returns-2 c = sym (List·getD-eq-default (now (c .before .args .words)) 0 {n = c .before .args .i} (search needs))
 
 pub word-at-spec : {M : Type 1} → statement M
 word-at-spec = tie.close (tie.spec mul-result shared-slice-read-result returns returns-2)

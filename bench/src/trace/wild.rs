@@ -42,8 +42,8 @@ impl List {
             26 if self.random.one_in(8) => self.write(offset::OPS, value),
             27 => self.write(offset::OPS, 0),
             28 => self.write(value as u16 & 0x3ff, value),
-            30 => self.any_mark(),
             29 => self.write(offset::ENABLE, 0),
+            30 => self.any_mark(),
             _ => self.register_write(),
         }
     }

@@ -81,7 +81,8 @@ enum thymewax_number {
     THYMEWAX_NO_SUCH_SECTION = 26,         /* the trace has no such section */
     THYMEWAX_WRONG_RECORD = 27,            /* the record, or the numbers of a step, name no call */
     THYMEWAX_BURST_HAS_NO_COMMANDS = 28,   /* a trigger with the offload length 0 */
-    THYMEWAX_NOT_CARRIED = 29              /* a burst carries private commands of 0 to 4 bytes */
+    THYMEWAX_NOT_CARRIED = 29,             /* a burst carries private commands of 0 to 4 bytes */
+    THYMEWAX_WATERMARK_ABOVE_CAPACITY = 30 /* the write was dropped: the queue has fewer words */
 };
 
 /* ---- Names of registers, of the fields of words and of their numbers ---- */
@@ -111,11 +112,11 @@ enum thymewax_register {
     THYMEWAX_REG_OPS = 0x100,             /* how the controller operates */
     THYMEWAX_REG_IBI_CONFIG = 0x140,      /* interrupt requests of devices. Write-only */
     THYMEWAX_REG_DEV_CHAR = 0x180,        /* the device table: an address and its flags */
-    THYMEWAX_REG_CMD_WATERMARK = 0x200,   /* the watermark of command words: fewer words than this are a source */
-    THYMEWAX_REG_CMDR_WATERMARK = 0x204,  /* the watermark of receipts: more words than this are a source */
-    THYMEWAX_REG_SDO_WATERMARK = 0x208,   /* the watermark of payload words to send: fewer words than this are a source */
-    THYMEWAX_REG_SDI_WATERMARK = 0x20c,   /* the watermark of payload words received: more words than this are a source */
-    THYMEWAX_REG_IBI_WATERMARK = 0x210,   /* the watermark of interrupt entries: more words than this are a source */
+    THYMEWAX_REG_CMD_WATERMARK = 0x200,   /* watermark of CMD: with fewer words, IRQ_SOURCE bit 0 is 1 */
+    THYMEWAX_REG_CMDR_WATERMARK = 0x204,  /* watermark of CMDR: with more words, IRQ_SOURCE bit 1 is 1 */
+    THYMEWAX_REG_SDO_WATERMARK = 0x208,   /* watermark of SDO: with fewer words, IRQ_SOURCE bit 2 is 1 */
+    THYMEWAX_REG_SDI_WATERMARK = 0x20c,   /* watermark of SDI: with more words, IRQ_SOURCE bit 3 is 1 */
+    THYMEWAX_REG_IBI_WATERMARK = 0x210,   /* watermark of IBI: with more words, IRQ_SOURCE bit 4 is 1 */
     THYMEWAX_REG_OFFLOAD_CMD = 0x2c0,     /* the commands of a burst */
     THYMEWAX_REG_OFFLOAD_SDO = 0x300      /* the data words of a burst */
 };

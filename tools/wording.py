@@ -136,6 +136,7 @@ WRITTEN_WORDS: dict[str, Callable[[int], str]] = {
     'ops': ops,
     'ibi_config': lambda value: bits(Config(value & 3)),
     'device': device_write,
+    'watermark': lambda value: count(value & 0xffff, 'word'),
 }
 READ_WORDS: dict[str, Callable[[int], str]] = {
     'number': plain,
@@ -152,6 +153,7 @@ READ_WORDS: dict[str, Callable[[int], str]] = {
     'ops': lambda value: '%s, %s' % (
         ops(value), 'no transfer open' if Ops.of(value).idle else 'a transfer is open'),
     'device': device,
+    'watermark': lambda value: count(value, 'word'),
 }
 # Where registers of one word are written for different ends.
 WRITTEN_TO: dict[str, Callable[[int], str]] = {

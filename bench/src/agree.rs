@@ -1,6 +1,6 @@
 //! The plain engine gives what the second program gives, after every call of several lists.
 
-use crate::pair::{Pair, SET_UPS};
+use crate::pair::{Pair, NUMBERS, SET_UPS};
 use crate::plain::call::Call;
 use crate::plain::transfer::{Kind, Phase, Requests, Transfer};
 use crate::plain::{offset, Answer, Bank, Latest};
@@ -10,7 +10,7 @@ const CALLS_A_LIST: usize = 150_000;
 
 #[test]
 fn gives_what_the_second_program_gives() {
-    let mut seen = [0; 21];
+    let mut seen = [0; NUMBERS];
     let mut calls = 0;
     for (n, set_up) in SET_UPS.into_iter().enumerate() {
         let seed = 100 + n as u64;
@@ -30,8 +30,9 @@ fn gives_what_the_second_program_gives() {
         }
     }
     assert!(calls >= 1_000_000);
-    for (number, count) in seen.into_iter().enumerate() {
-        assert!(count > 0, "number {number} was never given");
+    // Those of banks, stores and traces have their own tests; the plain engine knows no bursts.
+    for number in (0..=20).chain([30]) {
+        assert!(seen[number] > 0, "number {number} was never given");
     }
 }
 

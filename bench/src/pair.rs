@@ -65,12 +65,15 @@ fn plain_replay(replay: reference::trace::Replay) -> Replay {
     }
 }
 
+/// Numbers of calls are below this.
+pub const NUMBERS: usize = 31;
+
 /// Both engines, and how often each number was given.
 pub struct Pair {
     pub plain: Bank,
     pub store: Vec<u32>,
     reference: engine::Bank,
-    pub seen: [usize; 21],
+    pub seen: [usize; NUMBERS],
 }
 
 impl Pair {
@@ -80,7 +83,7 @@ impl Pair {
             plain: Bank::new(caps, marks, id),
             store: store_of(caps),
             reference: reference_bank(set_up),
-            seen: [0; 21],
+            seen: [0; NUMBERS],
         }
     }
 

@@ -33,7 +33,7 @@ fn empty(value: u32) -> Answer {
     Answer { value, number }
 }
 
-// 01's numbers.
+// 01's numbers, and that of 02 §6.
 const FULL: u32 = 1;
 const READ_ONLY: u32 = 2;
 const EMPTY: u32 = 3;
@@ -56,6 +56,7 @@ const WRONG_PARITY: u32 = 19;
 const NOT_ATTACHED: u32 = 20;
 pub const NOT_WELL_FORMED: u32 = 21;
 const WRONG_STORE: u32 = 22;
+const ABOVE_CAPACITY: u32 = 30;
 
 // The pending bits, at their places in IRQ_SOURCE.
 const RECEIPT: u8 = 1 << 5;
@@ -230,6 +231,11 @@ impl Bank {
             offset::FIFO_STATUS => self.status(),
             offset::OPS => u32::from(self.phase.is_idle()) << 7 | u32::from(self.ops),
             offset::DEV_CHAR => self.device(),
+            offset::CMD_MARK => self.cmd.mark,
+            offset::CMDR_MARK => self.cmdr.mark,
+            offset::SDO_MARK => self.sdo.mark,
+            offset::SDI_MARK => self.sdi.mark,
+            offset::IBI_MARK => self.ibi.mark,
             offset::COMMANDS..=offset::COMMANDS_LAST if offset % 4 == 0 => {
                 self.commands[usize::from((offset - offset::COMMANDS) / 4)]
             }
@@ -308,6 +314,11 @@ impl Bank {
             offset::OPS => self.ops = (value & 127) as u8,
             offset::IBI_CONFIG => self.config = (value & 3) as u8,
             offset::DEV_CHAR => self.write_device(value),
+            offset::CMD_MARK => return write_mark(&mut self.cmd, value),
+            offset::CMDR_MARK => return write_mark(&mut self.cmdr, value),
+            offset::SDO_MARK => return write_mark(&mut self.sdo, value),
+            offset::SDI_MARK => return write_mark(&mut self.sdi, value),
+            offset::IBI_MARK => return write_mark(&mut self.ibi, value),
             offset::COMMANDS..=offset::COMMANDS_LAST if offset % 4 == 0 => {
                 self.commands[usize::from((offset - offset::COMMANDS) / 4)] = value;
             }
@@ -626,4 +637,14 @@ impl Bank {
             number: WRONG_PARITY,
         }
     }
+}
+
+/// A watermark has sixteen bits, and is no more than its queue holds (02 §6).
+fn write_mark(ring: &mut Ring, value: u32) -> Answer {
+    let mark = value & 0xffff;
+    if mark > ring.cap {
+        return refuse(ABOVE_CAPACITY);
+    }
+    ring.mark = mark;
+    done(0)
 }

@@ -105,10 +105,19 @@ const SHOWN: [u16; 15] = [
     offset::DEV_CHAR,
 ];
 
+/// They came later (02 §6). The lists that are timed leave them out, so that times compare.
+const MARKS: [u16; 5] = [
+    offset::CMD_MARK,
+    offset::CMDR_MARK,
+    offset::SDO_MARK,
+    offset::SDI_MARK,
+    offset::IBI_MARK,
+];
+
 /// The offsets of the registers that show something and whose read changes nothing.
 pub fn shown() -> impl Iterator<Item = u16> {
     let offload = (offset::COMMANDS..=offset::PAYLOADS_LAST).step_by(4);
-    SHOWN.into_iter().chain(offload)
+    SHOWN.into_iter().chain(MARKS).chain(offload)
 }
 
 /// Writes a list.

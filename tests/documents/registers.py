@@ -146,18 +146,22 @@ def rules(table: Table, read: Read) -> Iterator[str]:
         yield f'{RULES}: {said} offsets, the table has {count}'
 
 
+def offsets_of(first: str, last: str | None) -> range:
+    """Every offset of an arm or a pair of constants; the last one is missing where it is the first."""
+    return range(int(first, 16), int(last or first, 16) + 4, 4)
+
+
 def apart(table: Table, read: Read) -> Iterator[str]:
-    """The second program and the plain engine have names of their own; of both the offsets are asked for."""
-    wanted: Facts = {place(one): '' for one in table.registers}
+    """The second program and the plain engine have names of their own and may take several registers together; of both the
+    offsets are asked for."""
+    names_at = {offset: one.name for one in table.registers for offset in one.offsets}
     second = re.findall(r'^        (0x\w+)(?:\.\.=(0x\w+))? => Register::', read(SECOND), re.M)
-    found: Facts = {first + (f' to {last}' if last else ''): '' for first, last in second}
     consts = dict(re.findall(r'^pub const (\w+): u16 = (0x\w+);$', read(PLAIN), re.M))
-    plain: Facts = {offset + (f' to {consts[name + "_LAST"]}' if name + '_LAST' in consts else ''): ''
-                    for name, offset in consts.items() if not name.endswith('_LAST')}
-    by_place = {place(one): one.name for one in table.registers}
-    for path, offsets in ((SECOND, found), (PLAIN, plain)):
-        named = {f'{where}, {by_place.get(where, "no register")}': value for where, value in offsets.items()}
-        yield from compare(path, named, {f'{where}, {by_place[where]}': value for where, value in wanted.items()})
+    plain = [(offset, consts.get(name + '_LAST')) for name, offset in consts.items() if not name.endswith('_LAST')]
+    wanted: Facts = {f'0x{offset:03x}, {name}': '' for offset, name in names_at.items()}
+    for path, places in ((SECOND, second), (PLAIN, plain)):
+        found = [offset for first, last in places for offset in offsets_of(first, last)]
+        yield from compare(path, {f'0x{offset:03x}, {names_at.get(offset, "no register")}': '' for offset in found}, wanted)
 
 
 # ── What tools/names.py writes ──────────────────────────────────────────────────────────────────────────────────────

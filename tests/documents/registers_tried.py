@@ -183,7 +183,8 @@ FILES = (
     ('docs/RULES.md', '**ops.keeps**, 0x100', '**ops.keeps**', 'no rule on OPS, 0x100'),
     ('reference/src/engine.rs', '0x100 => Register::Ops', '0x104 => Register::Ops', 'lacks 0x100, OPS'),
     ('bench/src/plain/offset.rs', 'COMMANDS_LAST: u16 = 0x2fc', 'COMMANDS_LAST: u16 = 0x2f8',
-     'lacks 0x2c0 to 0x2fc, OFFLOAD_CMD'),
+     'lacks 0x2fc, OFFLOAD_CMD'),
+    ('reference/src/engine.rs', '0x200..=0x210', '0x200..=0x20c', 'lacks 0x210, IBI_WATERMARK'),
 )
 
 

@@ -20,6 +20,8 @@ PUSHING = [one.offset for one in REGISTERS if one.row == 'pushes']
 TAKING = [one.offset for one in REGISTERS if one.row == 'takes']
 # Registers that take no write (`map.read-only`).
 READ_ONLY = [one.offset for one in REGISTERS if one.access == 'ro']
+# The registers of the watermarks, in queue order.
+WATERMARKS = [one.offset for one in REGISTERS if one.word == 'watermark']
 # What a burst locks (`burst.holds`).
 LOCKED = {Register.OPS, *OFFLOAD}
 
@@ -27,7 +29,7 @@ CMD, CMDR, SDO, SDI, IBI = range(5)
 QUEUES = ('CMD', 'CMDR', 'SDO', 'SDI', 'IBI')
 # Those that a read takes from, by their offsets.
 TAKING_QUEUES = dict(zip(TAKING, (CMDR, SDI, IBI)))
-SESSION_CAPACITIES = (4, 4, 4, 4, 4)
+SESSION_CAPACITIES, SESSION_WATERMARKS = (4, 4, 4, 4, 4), (1, 3, 1, 3, 3)
 LEAST_CAPACITIES = (2, 1, 1, 2, 1)
 MOST_CAPACITY, MOST_ID = 1024, 255
 # The capacities that scripts with set-ups give to each queue.

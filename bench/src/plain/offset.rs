@@ -1,4 +1,4 @@
-//! 01's register map.
+//! 01's register map, and the watermarks of 02 §6.
 
 pub const VERSION: u16 = 0x000;
 pub const ID: u16 = 0x004;
@@ -21,6 +21,11 @@ pub const FIFO_STATUS: u16 = 0x0e8;
 pub const OPS: u16 = 0x100;
 pub const IBI_CONFIG: u16 = 0x140;
 pub const DEV_CHAR: u16 = 0x180;
+pub const CMD_MARK: u16 = 0x200;
+pub const CMDR_MARK: u16 = 0x204;
+pub const SDO_MARK: u16 = 0x208;
+pub const SDI_MARK: u16 = 0x20c;
+pub const IBI_MARK: u16 = 0x210;
 pub const COMMANDS: u16 = 0x2c0;
 pub const COMMANDS_LAST: u16 = 0x2fc;
 pub const PAYLOADS: u16 = 0x300;

@@ -1,7 +1,7 @@
 //! A list for the comparison of engines: calls of any kind in any order, many of them refused.
 
 use super::file::Trace;
-use super::{command, List, ENTDAA, FIRST_DEVICE};
+use super::{command, List, ENTDAA, FIRST_DEVICE, MARKS};
 use crate::plain::offset;
 
 impl List {
@@ -14,6 +14,17 @@ impl List {
         };
         let bits = self.random.below(8) << 20;
         bits | command(device, length) | self.random.below(2)
+    }
+
+    /// Mostly a mark near the small capacities; bits 31:16 are any.
+    fn any_mark(&mut self) {
+        let at = MARKS[self.random.below(5) as usize];
+        let mark = match self.random.below(4) {
+            0 => self.random.below(1026),
+            _ => self.random.below(6),
+        };
+        let value = self.random.word() & 0xffff_0000 | mark;
+        self.write(at, value);
     }
 
     fn any_write(&mut self) {
@@ -32,6 +43,7 @@ impl List {
             27 => self.write(offset::OPS, 0),
             28 => self.write(value as u16 & 0x3ff, value),
             29 => self.write(offset::ENABLE, 0),
+            30 => self.any_mark(),
             _ => self.register_write(),
         }
     }

@@ -39,6 +39,7 @@ class Number(IntEnum):
     WRONG_RECORD = 27
     BURST_HAS_NO_COMMANDS = 28
     NOT_CARRIED = 29
+    WATERMARK_ABOVE_CAPACITY = 30
 
 
 # By number, in the words of docs/ANSWERS.md.
@@ -73,6 +74,7 @@ MEANINGS = (
     'a record of the trace is wrong',
     'the burst has no commands',
     'a command of the burst is not carried',
+    "a watermark above its queue's capacity was dropped",
 )
 
 

@@ -21,7 +21,7 @@ use std::fmt;
 pub struct Number(u32);
 
 /// The meanings as docs/ANSWERS.md has them, by number.
-const MEANINGS: [&str; 30] = [
+const MEANINGS: [&str; 31] = [
     "done",
     "a word written to a full CMD or SDO was dropped",
     "a write to a read-only register was dropped",
@@ -52,6 +52,7 @@ const MEANINGS: [&str; 30] = [
     "a record of the trace is wrong",
     "the burst has no commands",
     "a command of the burst is not carried",
+    "a watermark above its queue's capacity was dropped",
 ];
 
 impl Number {
@@ -115,6 +116,8 @@ impl Number {
     pub const BURST_HAS_NO_COMMANDS: Number = Number(28);
     /// 29: a command of the burst is not carried.
     pub const NOT_CARRIED: Number = Number(29);
+    /// 30: a watermark above its queue's capacity was dropped.
+    pub const WATERMARK_ABOVE_CAPACITY: Number = Number(30);
 
     pub(crate) const fn new(number: u32) -> Number {
         Number(number)
@@ -171,7 +174,7 @@ mod tests {
 
     #[test]
     fn a_number_of_another_version_has_a_text() {
-        assert_eq!(Number::new(30).to_string(), "30: not known to this version");
+        assert_eq!(Number::new(31).to_string(), "31: not known to this version");
         assert_eq!(Number::new(u32::MAX).meaning(), "not known to this version");
     }
 }

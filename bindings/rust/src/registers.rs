@@ -45,15 +45,15 @@ pub const OPS: u16 = 0x100;
 pub const IBI_CONFIG: u16 = 0x140;
 /// The device table: an address and its flags.
 pub const DEV_CHAR: u16 = 0x180;
-/// The watermark of command words: fewer words than this are a source.
+/// Watermark of CMD: with fewer words, IRQ_SOURCE bit 0 is 1.
 pub const CMD_WATERMARK: u16 = 0x200;
-/// The watermark of receipts: more words than this are a source.
+/// Watermark of CMDR: with more words, IRQ_SOURCE bit 1 is 1.
 pub const CMDR_WATERMARK: u16 = 0x204;
-/// The watermark of payload words to send: fewer words than this are a source.
+/// Watermark of SDO: with fewer words, IRQ_SOURCE bit 2 is 1.
 pub const SDO_WATERMARK: u16 = 0x208;
-/// The watermark of payload words received: more words than this are a source.
+/// Watermark of SDI: with more words, IRQ_SOURCE bit 3 is 1.
 pub const SDI_WATERMARK: u16 = 0x20c;
-/// The watermark of interrupt entries: more words than this are a source.
+/// Watermark of IBI: with more words, IRQ_SOURCE bit 4 is 1.
 pub const IBI_WATERMARK: u16 = 0x210;
 /// The commands of a burst.
 pub const OFFLOAD_CMD: [u16; 16] = row(0x2c0);

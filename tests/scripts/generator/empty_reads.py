@@ -1,11 +1,7 @@
 """Reads of empty queues: before a word, after one, and with older words about."""
 
 from tests.scripts.bank import TAKING, TAKING_QUEUES
-from tests.scripts.endings import NO_ERROR
-from tests.scripts.generator.moves import SMALL, Moves
-
-# Bytes of a word.
-BYTES = 4
+from tests.scripts.generator.moves import BYTES, SMALL, Moves
 
 
 class EmptyReads(Moves):
@@ -34,14 +30,6 @@ class EmptyReads(Moves):
         first = self.source.below(len(TAKING))
         for offset in TAKING[first:] + TAKING[:first]:
             self.script.read(offset)
-
-    def word_in_each(self, address):
-        """A receipt, the word of its read, and an interrupt."""
-        self.open_transfer(address, BYTES, True)
-        for _ in self.times(BYTES):
-            self.script.receive()
-        self.script.finish(NO_ERROR)
-        self.script.interrupt(address)
 
     def refused_accesses(self):
         """They have no value, whatever the queue has to show."""

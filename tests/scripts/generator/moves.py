@@ -26,6 +26,8 @@ ADDRESS_WORD = 0x10000000
 SMALL = 8
 # All bits but the lowest.
 EVEN = 0xfffffffe
+# Bytes of a word.
+BYTES = 4
 
 
 class Moves:
@@ -108,6 +110,16 @@ class Moves:
         self.script.write(Register.CMD_FIFO, self.empty_write(address))
         self.script.start()
         self.script.finish(NO_ERROR)
+
+    # Words to read.
+
+    def word_in_each(self, address):
+        """A receipt, the word of its read, and an interrupt."""
+        self.open_transfer(address, BYTES, True)
+        for _ in self.times(BYTES):
+            self.script.receive()
+        self.script.finish(NO_ERROR)
+        self.script.interrupt(address)
 
     # In a transfer.
 

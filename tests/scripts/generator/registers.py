@@ -1,7 +1,7 @@
 """Steps and scenarios of accesses: every register, offsets without one, devices, modes, pending
 bits."""
 
-from tests.scripts.bank import DEVICES, MAPPED, OFFLOAD, PUSHING, READ_ONLY, TAKING
+from tests.scripts.bank import DEVICES, MAPPED, OFFLOAD, PUSHING, READ_ONLY, TAKING, WATERMARKS
 from tests.scripts.generator.moves import (ABLE, ADDRESSES, ATTACHED, DETACHED, EVEN, HEARD,
                                            SILENT, STORE, UNHEARD, Moves)
 from tests.scripts.generator.script import SHOWING
@@ -11,7 +11,7 @@ from thymewax import Device, Irq, Register
 PLAIN = [Register.SCRATCH] * 4 + [Register.IRQ_MASK] * 12 + OFFLOAD
 # Offsets without a register, next to one or like one.
 NEAR_MISSES = [0x00c, 0x03c, 0x044, 0x07c, 0x08c, 0x0bc, 0x0ec, 0x0fc, 0x104, 0x13c,
-               0x144, 0x17c, 0x184, 0x2bc, 0x340, 0x3fc, 0x400, 0x10d4, 0x8040, 0xfffc]
+               0x144, 0x17c, 0x184, 0x1fc, 0x214, 0x2bc, 0x340, 0x3fc, 0x400, 0x10d4, 0x8040, 0xfffc]
 # The bits that a write to IRQ_PENDING clears, and all sources.
 CLEARED = [Irq.CMDR_PENDING, Irq.IBI_PENDING, Irq.DAA_PENDING]
 ALL_SOURCES = 0xff
@@ -101,7 +101,8 @@ class Registers(Moves):
 
     def look_back(self):
         """Reads what a reset leaves as it is."""
-        for offset in (Register.SCRATCH, Register.IRQ_MASK, Register.OPS, Register.DEV_CHAR):
+        for offset in (Register.SCRATCH, Register.IRQ_MASK, Register.OPS, Register.DEV_CHAR,
+                       *WATERMARKS):
             self.script.read(offset)
         for _ in range(4):
             self.script.read(self.source.pick(OFFLOAD))

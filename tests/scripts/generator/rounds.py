@@ -7,6 +7,7 @@ from tests.scripts.generator.no_calls import NoCalls
 from tests.scripts.generator.rings import Rings
 from tests.scripts.generator.set_ups import SetUps
 from tests.scripts.generator.transfers import Transfers
+from tests.scripts.generator.watermarks import Watermarks
 
 # The calls of the steps before a release, and after a scenario.
 HELD_CALLS, ROUND_CALLS = 30, 700
@@ -19,15 +20,16 @@ def weighted(weights):
 
 # Weights of the steps, by phase. `drain` is added by the mood.
 HELD_STEPS = {'look': 6, 'plain_write': 4, 'any_read': 3, 'queue_access': 4, 'any_event': 10,
-              'device': 3, 'config': 2, 'bad_offset': 3, 'release': 5, 'hold': 1, 'mode': 1}
+              'device': 3, 'config': 2, 'bad_offset': 3, 'release': 5, 'hold': 1, 'mode': 1,
+              'watermark': 2}
 IDLE_STEPS = {'look': 30, 'command': 45, 'data': 10, 'start': 70, 'interrupt': 40,
               'any_event': 20, 'device': 8, 'config': 6, 'mode': 2, 'plain_write': 8,
               'any_read': 6, 'queue_access': 4, 'bad_offset': 10, 'pending': 12, 'hold': 1,
-              'release': 1}
+              'release': 1, 'watermark': 8}
 OPEN_STEPS = {'look': 30, 'move': 110, 'end': 45, 'data': 10, 'command': 8, 'any_event': 14,
               'other_event': 10, 'detach': 5, 'device': 3, 'config': 2, 'mode': 1,
               'plain_write': 4, 'any_read': 3, 'queue_access': 3, 'bad_offset': 4,
-              'pending': 8, 'hold': 2, 'release': 1}
+              'pending': 8, 'hold': 2, 'release': 1, 'watermark': 5}
 MOOD_DRAINS = [5, 25, 80]
 IDLE_TABLES = [weighted({**IDLE_STEPS, 'drain': drain}) for drain in MOOD_DRAINS]
 OPEN_TABLES = [weighted({**OPEN_STEPS, 'drain': drain}) for drain in MOOD_DRAINS]
@@ -42,7 +44,7 @@ TEST_OPEN_TABLES = [table + weighted(BURST_OPEN_STEPS) for table in OPEN_TABLES]
 TEST_HELD_TABLE = HELD_TABLE + weighted(BURST_HELD_STEPS)
 
 
-class Walk(Transfers, Rings, BurstCases, EmptyReads, FailedWrites, SetUps, NoCalls):
+class Walk(Transfers, Rings, BurstCases, EmptyReads, FailedWrites, Watermarks, SetUps, NoCalls):
     """Rounds of steps and scenarios."""
 
     mood = 0
@@ -62,6 +64,7 @@ class Walk(Transfers, Rings, BurstCases, EmptyReads, FailedWrites, SetUps, NoCal
         self.look_back()
         if self.test or number % 12 == 0:
             self.empty_reads()
+            self.watermarks()
         if number % 4 == 0:
             self.register_tour()
         self.steps(HELD_CALLS)

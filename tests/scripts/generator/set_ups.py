@@ -1,7 +1,7 @@
 """Set-ups: capacities and watermarks in turn, numbers out of range, calls on a refused bank."""
 
 from tests.scripts.bank import (DEVICES, LEAST_CAPACITIES, MOST_CAPACITY, MOST_ID, QUEUES,
-                                TAKING, TEST_CAPACITIES)
+                                TAKING, TEST_CAPACITIES, WATERMARKS)
 from tests.scripts.endings import CODES
 from tests.scripts.generator.guess import Guess
 from tests.scripts.generator.moves import Moves
@@ -22,7 +22,7 @@ class SetUps(Moves):
     def set_up(self, number):
         capacities = self.capacities(number)
         ident = (0, MOST_ID, self.source.below(MOST_ID + 1))[number % 3]
-        watermarks = self.watermarks(capacities, number // 2 + self.seed)
+        watermarks = self.first_marks(capacities, number // 2 + self.seed)
         self.script.put_call(SET_UP, (*capacities, *watermarks, ident))
         self.script.guess = Guess(capacities)
 
@@ -35,7 +35,7 @@ class SetUps(Moves):
             sizes = [self.source.pick(SMALL_CAPACITIES) for _ in range(5)]
         return [size if size >= least else 4 for size, least in zip(sizes, LEAST_CAPACITIES)]
 
-    def watermarks(self, capacities, turn):
+    def first_marks(self, capacities, turn):
         return [(0, size, 1, size, size - 1, size // 2)[(turn + queue) % 6]
                 for queue, size in enumerate(capacities)]
 
@@ -53,7 +53,8 @@ class SetUps(Moves):
         """Calls that would have another number in a bank that is well formed."""
         for letter, *values in (('R', 1), ('W', Register.VERSION, 0), ('W', Register.ENABLE, 0),
                                 ('F', len(CODES)), ('I', DEVICES, 0),
-                                *(('R', offset) for offset in TAKING)):
+                                *(('R', offset) for offset in TAKING),
+                                ('W', self.source.pick(WATERMARKS), 0xffff)):
             if self.source.one_in(4):
                 self.script.put_call(letter, tuple(values))
 
@@ -69,7 +70,7 @@ class SetUps(Moves):
     def refused_numbers(self):
         """Eleven numbers, one of them out of range, each in its turn."""
         sizes = [self.source.pick(TEST_CAPACITIES[1:]) for _ in range(5)]
-        watermarks = self.watermarks(sizes, self.source.below(6))
+        watermarks = self.first_marks(sizes, self.source.below(6))
         numbers = sizes + watermarks + [self.source.below(MOST_ID + 1)]
         place = self.faults % 11
         high = self.faults // 11 % 2 == 0

@@ -6,6 +6,7 @@ from tests.scripts.reached.empty_reads import WORD_OF, EmptyReads
 from tests.scripts.reached.followed import CMDR_PENDING, DAA_PENDING, DONE, IBI_PENDING
 from tests.scripts.reached.possible import name_at
 from tests.scripts.reached.situations import BITS, BY_RESET, PENDING_BITS
+from tests.scripts.reached.watermarks import Watermarks, marked_queue
 from thymewax import Config, Number, Register
 
 CONFIG = int(Config.IBI_CONFIG_ENABLE | Config.IBI_CONFIG_LISTEN)
@@ -13,16 +14,22 @@ CONFIG = int(Config.IBI_CONFIG_ENABLE | Config.IBI_CONFIG_LISTEN)
 CLEARED_BY_READ = {CMDR: CMDR_PENDING, IBI: IBI_PENDING}
 
 
-class Accesses(EmptyReads):
+class Accesses(EmptyReads, Watermarks):
     """Reads and writes."""
 
     def count_access(self, letter, offset, number):
         self.counts.accesses[letter, name_at(offset), self.held, number] += 1
+        if number == Number.NO_REGISTER:
+            self.note_miss(letter, offset)
 
     def call_W(self, offset, word, _, number):
         self.count_access('W', offset, number)
         if self.in_burst() and number == Number.NO_REGISTER and offset & WORD_OF in LOCKED:
             self.note('write: 4 before 6')
+        queue = marked_queue(offset)
+        if queue is not None:
+            self.write_mark(queue, word, number)
+            return
         if number != DONE:
             self.note_refused('W', offset, number)
             return
@@ -45,6 +52,7 @@ class Accesses(EmptyReads):
         if bit:
             self.note_reset()
             self.clear()
+            self.marks_over_reset()
             self.began = BY_RESET
             self.source = 0
         elif not self.held and self.transfer:
@@ -83,8 +91,11 @@ class Accesses(EmptyReads):
             self.note_refused('R', offset, number)
         elif offset == Register.OPS and self.in_burst():
             self.note('OPS read in a burst')
+        elif marked_queue(offset) is not None:
+            self.read_mark(marked_queue(offset), value)
         elif offset == Register.IRQ_SOURCE:
             self.source = value
+            self.read_sources(value)
             for bit in BITS:
                 self.note('source bit %d read as %d' % (bit, value >> bit & 1))
         elif offset == Register.IRQ_PENDING:

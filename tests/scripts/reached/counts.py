@@ -18,6 +18,7 @@ class Follower(Accesses, Events, SetUps):
     """Follows the calls of one script by their answers and counts."""
 
     def follow(self, letter, fields, value, number):
+        self.look_at_sources(letter, fields)
         if letter == SET_UP:
             self.set_up(fields, number)
         elif letter == SHOW:

@@ -2,7 +2,7 @@
 
 from collections import deque
 
-from tests.scripts.bank import QUEUES, SESSION_CAPACITIES, Bank
+from tests.scripts.bank import QUEUES, SESSION_CAPACITIES, SESSION_WATERMARKS, Bank
 from tests.scripts.reached.situations import (ALL_ORDERS, BY_SET_UP, IDLE, IN_RESET,
                                               TRANSFER_OPEN)
 from thymewax import Irq, Number
@@ -20,7 +20,11 @@ class Followed(Bank):
 
     Of the queues that a read takes from: `latest` has the words read last since the reset, which
     made them `forgotten`, or the set-up did, as `began` says; `stored` the words of the store that
-    are known, by their places; `empty` the queues read as empty since."""
+    are known, by their places; `empty` the queues read as empty since.
+
+    `marks` are the watermarks, `first_marks` those of the set-up, which queues in `as_set_up` still
+    have; those in `left` were refused another since, those in `over_reset` have kept theirs over a
+    reset. `shown` are the sources as last read, while only the watermark of `marked` was written."""
 
     def __init__(self, counts):
         super().__init__()
@@ -28,11 +32,14 @@ class Followed(Bank):
         self.lent = 0
         self.written = set()
         self.latest, self.forgotten, self.stored = {}, {}, {}
-        self.new_bank(SESSION_CAPACITIES)
+        self.new_bank(SESSION_CAPACITIES, SESSION_WATERMARKS)
 
-    def new_bank(self, capacities):
+    def new_bank(self, capacities, watermarks):
         Bank.__init__(self)
         self.capacities = capacities
+        self.first_marks, self.marks = watermarks, list(watermarks)
+        self.as_set_up, self.left, self.over_reset = set(range(len(QUEUES))), set(), set()
+        self.shown = self.marked = None
         self.config = 0
         self.source = 0
         self.refused = False

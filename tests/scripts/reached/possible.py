@@ -3,7 +3,7 @@
 A script with set-ups and bursts has more of them; `test` says that it is one.
 """
 
-from tests.scripts.bank import LOCKED, MAPPED, PUSHING, READ_ONLY, TAKING
+from tests.scripts.bank import LOCKED, MAPPED, PUSHING, READ_ONLY, TAKING, WATERMARKS
 from tests.scripts.endings import BURST_ENDINGS, CODES, ENDINGS
 from tests.scripts.lines import SET_UP, SHOW
 from thymewax import OFFLOAD_CMD, OFFLOAD_SDO, Number, Register
@@ -18,7 +18,8 @@ def named(names):
 # `start.tests` and so on. A session's bank is sound and its store fits: it has neither 21 nor 22
 # (`answer.bank`).
 SESSION_PAIRS = {
-    'W': named('DONE DROPPED_FULL DROPPED_READ_ONLY NO_REGISTER HELD_IN_RESET'),
+    'W': named('DONE DROPPED_FULL DROPPED_READ_ONLY NO_REGISTER HELD_IN_RESET '
+               'WATERMARK_ABOVE_CAPACITY'),
     'R': named('DONE EMPTY NO_REGISTER'),
     'S': named('DONE HELD_IN_RESET TRANSFER_OPEN NOT_IN_THIS_MODE NO_COMMAND SDO_NOT_EMPTY'),
     'T': named('DONE HELD_IN_RESET NO_TRANSFER NOT_THIS_KIND LENGTH_REACHED SDO_EMPTY '
@@ -55,7 +56,7 @@ def short_name(register):
     """The name of a register in the table of accesses."""
     name = register.name
     for long, short in (('_FIFO_ROOM', ' room'), ('_FIFO_LEVEL', ' level'), ('_FIFO', ''),
-                        ('DEVICE_ID', 'ID')):
+                        ('_WATERMARK', ' watermark'), ('DEVICE_ID', 'ID')):
         name = name.replace(long, short)
     return name
 
@@ -80,6 +81,8 @@ def write_numbers(offset, held, test):
         return named('DROPPED_READ_ONLY')
     if offset in PUSHING:
         return named('HELD_IN_RESET') if held else named('DONE DROPPED_FULL')
+    if offset in WATERMARKS:
+        return named('DONE WATERMARK_ABOVE_CAPACITY')
     return named('DONE')
 
 

@@ -12,10 +12,10 @@ class SetUps(Followed):
         if self.transfer:
             self.note('set-up in a burst' if self.in_burst() else 'set-up during a transfer')
         if number == DONE:
-            self.new_bank(capacities)
+            self.new_bank(capacities, watermarks)
             self.note_set_up(capacities, watermarks, ident)
         else:
-            self.new_bank([0] * len(QUEUES))
+            self.new_bank([0] * len(QUEUES), [0] * len(QUEUES))
             self.refused = True
             self.note_refusal(capacities, watermarks, ident)
 

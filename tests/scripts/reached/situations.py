@@ -1,7 +1,8 @@
 """The situations that scripts must reach, by the names under which they are counted."""
 
 from tests.scripts.bank import (BURST_LENGTH, CARRIED_LENGTH, LEAST_CAPACITIES, OUTPUT_WORDS,
-                                QUEUES, SESSION_CAPACITIES, TAKING_QUEUES, TEST_CAPACITIES)
+                                QUEUES, SESSION_CAPACITIES, TAKING_QUEUES, TEST_CAPACITIES,
+                                WATERMARKS)
 from tests.scripts.endings import CE2, ENDINGS, NACK, NO_ERROR, NONE_MOVED, UNKNOWN, UNSENT
 from tests.scripts.reached.possible import EVENTS
 from thymewax import Irq, Number
@@ -115,6 +116,52 @@ SET_UP_EMPTY_READS = (
     + ['SDI' + AFTER_A_BURST]
 )
 
+# Watermarks that are written (`watermark.keeps`): each value that counts in each phase, what is read
+# then, and the sources, as they are read before and after a write and nothing else.
+NONE, MOST, ABOVE, WITH_HIGH_BITS = '0', 'of the capacity', 'one above refused', 'with bits 31:16'
+READ_AS_SET_UP, READ_AS_WRITTEN = ' watermark read as set up', ' watermark read as written'
+LEFT, LOW_BYTE_FITS = ' watermark read, one refused since', ' watermark refused, its low byte fits'
+BURST_OPEN = 'burst open'
+# Offsets without a register: in the middle of the first word, and behind the last.
+MISSES = (WATERMARKS[0] + 2, WATERMARKS[-1] + 4)
+# Queues whose level is a source while it is small: so in reset too.
+ALMOST_EMPTY = ('CMD', 'SDO')
+
+
+def mark_written(queue, value, phase):
+    return '%s watermark %s, %s' % (queue, value, phase)
+
+
+def mark_kept(queue, held):
+    return '%s watermark kept over a reset, %s' % (queue, 'in reset' if held else 'released')
+
+
+def mark_switches(queue, on, held):
+    return '%s watermark turns its source %s, %s' % (queue, 'on' if on else 'off',
+                                                     'in reset' if held else 'released')
+
+
+def mark_miss(letter, offset):
+    return '%s at %04x: 4' % (letter, offset)
+
+
+def pending_stays(queue, bit):
+    return '%s watermark written, bit %d stays 1' % (queue, bit)
+
+
+def watermarks(phases):
+    return ([mark_written(queue, value, phase) for queue in QUEUES for phase in phases
+             for value in (NONE, MOST, ABOVE, WITH_HIGH_BITS)]
+            + [queue + case for queue in QUEUES
+               for case in (READ_AS_SET_UP, READ_AS_WRITTEN, LEFT, LOW_BYTE_FITS)]
+            + [mark_kept(queue, held) for queue in QUEUES for held in (True, False)]
+            + [mark_switches(queue, on, held) for queue in QUEUES for on in (True, False)
+               for held in (True, False) if not held or queue in ALMOST_EMPTY]
+            + [pending_stays(queue, bit) for queue in QUEUES for bit in PENDING_BITS]
+            + [mark_miss(letter, offset) for letter in 'RW' for offset in MISSES]
+            + ['write: 4 before 30'])
+
+
 SESSION_SITUATIONS = (
     ['%s full with head at %d' % (queue, head)
      for queue, size in zip(QUEUES, SESSION_CAPACITIES) for head in range(size)]
@@ -153,7 +200,7 @@ SESSION_SITUATIONS = (
     + ['source bit %d read as %d' % (bit, value) for bit in BITS for value in (0, 1)]
     + ['pending bit %d read as 1' % bit for bit in BITS]
     + ['bit %d cleared by a write' % bit for bit in PENDING_BITS]
-    + EMPTY_READS
+    + EMPTY_READS + watermarks(PHASES)
 )
 
 # What each of the 128 device addresses must have been used for.
@@ -171,7 +218,10 @@ SET_UP_SITUATIONS = (
     + ['%s watermark above the capacity refused' % queue for queue in QUEUES]
     + ['ID above 255 refused']
     + ['set-up during a transfer', 'receipt number above 256', 'interrupt number above 256']
-    + SET_UP_EMPTY_READS
+    + SET_UP_EMPTY_READS + watermarks((*PHASES, BURST_OPEN))
+    + ['%s of %d, watermark %s' % (queue, size, value)
+       for queue, least in zip(QUEUES, LEAST_CAPACITIES) for size in TEST_CAPACITIES if size >= least
+       for value in (MOST, ABOVE)]
 )
 
 LENGTHS = range(CARRIED_LENGTH + 1)

@@ -84,7 +84,7 @@ DAMAGES = (
     ('a comment', RING, PLACE, f'// (r.head + i) % r.cap.0\n    /* or / */ {PLACE}', ''),
     ('a contract', RING, 'requires { ⌜ (Valid r) × (i ≤ r .cap .0) ⌝ }',
      'requires { ⌜ (Valid r) × (record { 0 = i % 7 / 2 } .0 ≤ r .cap .0) ⌝ }', ''),
-    ('a ghost use', RING, 'ghost use Prim.Native.Nat.{_+_, ', 'ghost use Prim.Native.Nat.{_+_, _%_, _/_, ', ''),
+    ('a ghost use', RING, 'ghost use Prim.Native.Nat.{_+_};', 'ghost use Prim.Native.Nat.{_+_, _%_, _/_};', ''),
     ('letters', SETTLE, 'let o = e.ops;', 'let o = e.ops;\n    let slash = b\'/\';\n    let text = b"% // +";', ''),
     ('a later ring by ring', LATER, '', 'fn give(r: ring::Ring, base: usize, words: &mut [u32], w: u32) -> ring::Ring {\n'
      '    if r.cap.0 <= r.level.0 {\n        return r;\n    }\n    ring::push(r, base, words, w)\n}\n', ''),

@@ -145,7 +145,7 @@ class Model:
 
     def read(self, offset: int) -> Answer:
         """The host reads a register. CMDR, SDI or IBI gives its first word; an empty one is answered
-        3, with the word last read from it since the release, 0 if there was none."""
+        3, with the word last read from it since the release, or 0."""
         return self.step('R', offset)
 
     def start(self) -> Answer:

@@ -171,7 +171,7 @@ impl Model {
     /// The host reads a register; the value is what it shows.
     ///
     /// A read of CMDR, SDI or IBI takes the first word of the queue. An empty one shows the word last
-    /// read from it since the release, 0 if there was none, with [`Number::EMPTY`].
+    /// read from it since the release, or 0, with [`Number::EMPTY`].
     pub fn read(&mut self, offset: u16) -> Answer {
         self.step(Call::Read { offset })
     }

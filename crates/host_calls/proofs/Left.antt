@@ -6,10 +6,10 @@ use Rattle.model.specs.Engine.{Step}
 use Rattle.model.specs.Rings.{Controller}
 use Rattle.image_model.specs.Image.{imageOf, kept}
 use Rattle.host_model.specs.Host.{hosted, packedOf}
-use Rattle.host_parts.specs.Lent.{loan, gave, packed}
+use Rattle.host_parts.specs.Lent.{loan, gave, packedStep}
 use Rattle.host_parts.proofs.Kept.{kept-bank}
 
 module _ (r : ℕ) (ws : List ℕ) (s t : Step Controller) where
   pub made : r ≡ packedOf (s .answer) → ws ≡ imageOf (s .next .bank .state) (s .next .bank .heads) → s ≡ t
-      → gave r (loan (kept ws (s .next .bank .flags) (s .next .bank .commands) (s .next .bank .payloads)) (s .next .store) (s .next .output)) ≡ packed (hosted t)
-  made e f g = (λ i. gave (e i) (loan (kept-bank ws (s .next .bank) f i) (s .next .store) (s .next .output))) ∙ ap (λ (x : Step Controller). packed (hosted x)) g
+      → gave r (loan (kept ws (s .next .bank .flags) (s .next .bank .commands) (s .next .bank .payloads)) (s .next .store) (s .next .output)) ≡ packedStep (hosted t)
+  made e f g = (λ i. gave (e i) (loan (kept-bank ws (s .next .bank) f i) (s .next .store) (s .next .output))) ∙ ap (λ (x : Step Controller). packedStep (hosted x)) g

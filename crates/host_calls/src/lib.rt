@@ -9,7 +9,7 @@ ghost use Rattle.answer.specs.Given.{bankWith};
 ghost use Rattle.answer.specs.Memory.{memory, lent, controllerOf};
 ghost use Rattle.image_model.specs.Image.{size, encoded, kept, sized};
 ghost use Rattle.host_model.specs.Host.{setUpIn, callOf, hosted};
-ghost use Rattle.host_parts.specs.Lent.{keptLent, keptLeft, lentAll, leftAll, fresh, gave, packed, stepOn};
+ghost use Rattle.host_parts.specs.Lent.{keptLent, keptLeft, lentAll, leftAll, fresh, gave, packedStep, stepOn};
 use bank::Heads;
 use bank::Sizes;
 use bank::State;
@@ -70,7 +70,7 @@ fn make(
     c: Call,
 ) -> u64
     requires { ⌜ (length (now image) ≡ size) × (wellFormed (bankWith s h (memory flags commands payloads store output .tables)) ≡ true) ⌝ }
-    ensures { λ r. ⌜ gave r (leftAll image flags commands payloads store output) ≡ packed (hosted (step rings (controllerOf s h (lent flags commands payloads store output)) c)) ⌝ }
+    ensures { λ r. ⌜ gave r (leftAll image flags commands payloads store output) ≡ packedStep (hosted (step rings (controllerOf s h (lent flags commands payloads store output)) c)) ⌝ }
 {
     let fault = faults::length_fault(s.caps, store.len());
     let y = serve::step_parts(s, h, flags, commands, payloads, store, output, fault, c);

@@ -12,7 +12,7 @@ use Rattle.bank.specs.declared.Heads.{Heads}
 use Rattle.bank.proofs.Bools.{and-true}
 use Rattle.image_model.specs.Image.{size, imageOf, stateIn, headsIn, Kept, kept, keptOf, bankIn, sized, isKept}
 use Rattle.host_model.specs.Host.{Hosted, packedOf, refusal}
-use Rattle.host_parts.specs.Lent.{loan, gave, packed}
+use Rattle.host_parts.specs.Lent.{loan, gave, packedStep}
 
 pub long : (k : Kept) → sized k ≡ true → length (k .image) ≡ size
 long k s = eqb-true (length (k .image)) size (and-true (eqb (length (k .image)) size) (eqb (length (k .flags)) 128 && (eqb (length (k .commands)) 16 && eqb (length (k .payloads)) 16)) s .0)
@@ -29,5 +29,5 @@ pub said-by-parts : (k : Kept) (s : State) (h : Heads) → s ≡ stateIn (k .ima
 unfolding bankIn
 said-by-parts k s h e f = λ i. record { state = e i; heads = f i; flags = k .flags; commands = k .commands; payloads = k .payloads }
 
-pub refuses : (r n : ℕ) (k : Kept) (st o : List ℕ) (h : Hosted) → r ≡ packedOf (record { value = 0; number = n }) → refusal n k st o ≡ h → gave r (loan k st o) ≡ packed h
-refuses r n k st o h e f = ap (λ (x : ℕ). gave x (loan k st o)) e ∙ ap packed f
+pub refuses : (r n : ℕ) (k : Kept) (st o : List ℕ) (h : Hosted) → r ≡ packedOf (record { value = 0; number = n }) → refusal n k st o ≡ h → gave r (loan k st o) ≡ packedStep h
+refuses r n k st o h e f = ap (λ (x : ℕ). gave x (loan k st o)) e ∙ ap packedStep f

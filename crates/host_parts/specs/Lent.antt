@@ -42,15 +42,15 @@ gave n m = record { number = n; after = m }
 abbrev pub fresh : ℕ → Kept → Fresh
 fresh n k = record { number = n; kept = k }
 
-abbrev pub sizes : ℕ → ℕ → ℕ → ℕ → ℕ → Sizes
-sizes a b c d e = record { cmd = a; cmdr = b; sdo = c; sdi = d; ibi = e }
+abbrev pub sizesGiven : ℕ → ℕ → ℕ → ℕ → ℕ → Sizes
+sizesGiven a b c d e = record { cmd = a; cmdr = b; sdo = c; sdi = d; ibi = e }
 
 -- what the definitions say that a call and a replay give, of what is lent
-abbrev pub packed : Hosted → Gave
-packed h = gave (packedOf (h .answer)) (loan (h .kept) (h .store) (h .output))
+abbrev pub packedStep : Hosted → Gave
+packedStep h = gave (packedOf (h .answer)) (loan (h .kept) (h .store) (h .output))
 
 abbrev pub stepOn : Parsed → Loan → Gave
-stepOn p m = packed (stepIn p (m .keeps) (m .store) (m .words))
+stepOn p m = packedStep (stepIn p (m .keeps) (m .store) (m .words))
 
 abbrev pub replayed : Replayed → Gave
 replayed h = gave (h .number) (loan (h .kept) (h .store) (h .told))

@@ -16,7 +16,7 @@ use Rattle.model.specs.declared.Call.{Call}
 use Rattle.model.specs.declared.Call.the-variants.{Read, Write, Start, Send, Receive, Finish, Interrupt, Request, Take, Trigger}
 use Rattle.model.specs.View.{Queue, Cmd, Cmdr, Sdo, Sdi, Ibi, of, empty}
 use Rattle.model.specs.Decision.{Decision, does, first, effect}
-use Rattle.model.specs.Registers.{Cell, scratch, mask, ops, ibiConfig, devChar, watermark, offloadCmd, offloadSdo, Row, absent, shows, holds, pushes, takes, enables, acknowledges, row, taken, shownAgain, shown, enable, read, write}
+use Rattle.model.specs.Registers.{Cell, scratch, mask, ops, ibiConfig, devChar, watermark, offloadCmd, offloadSdo, Row, absent, shows, holds, pushes, takes, enables, acknowledges, row, takenFirst, shownAgain, shown, enable, read, write}
 use Rattle.model.specs.Bursts.{decide}
 use Rattle.model.specs.Engine.{Step, outcome, step}
 use Rattle.model.specs.Rings.{Controller, viewRings, settleRings, guardRings, rings}
@@ -102,12 +102,12 @@ module _ (l : Controller) (o : List ℕ) where
   again-blind : (q : Queue) → Blind (does (shownAgain q (viewRings l))) (does (shownAgain q (viewRings m)))
   again-blind q = blind (does (shownAgain q (viewRings l))) (does (shownAgain q (viewRings m))) refl refl refl refl
 
-  taken-blind : (q : Queue) → Blind (does (taken q (viewRings l))) (does (taken q (viewRings m)))
-  taken-blind Cmd = blind (does (taken Cmd (viewRings l))) (does (taken Cmd (viewRings m))) refl refl refl refl
-  taken-blind Cmdr = blind (does (taken Cmdr (viewRings l))) (does (taken Cmdr (viewRings m))) refl refl refl refl
-  taken-blind Sdo = blind (does (taken Sdo (viewRings l))) (does (taken Sdo (viewRings m))) refl refl refl refl
-  taken-blind Sdi = blind (does (taken Sdi (viewRings l))) (does (taken Sdi (viewRings m))) refl refl refl refl
-  taken-blind Ibi = blind (does (taken Ibi (viewRings l))) (does (taken Ibi (viewRings m))) refl refl refl refl
+  taken-blind : (q : Queue) → Blind (does (takenFirst q (viewRings l))) (does (takenFirst q (viewRings m)))
+  taken-blind Cmd = blind (does (takenFirst Cmd (viewRings l))) (does (takenFirst Cmd (viewRings m))) refl refl refl refl
+  taken-blind Cmdr = blind (does (takenFirst Cmdr (viewRings l))) (does (takenFirst Cmdr (viewRings m))) refl refl refl refl
+  taken-blind Sdo = blind (does (takenFirst Sdo (viewRings l))) (does (takenFirst Sdo (viewRings m))) refl refl refl refl
+  taken-blind Sdi = blind (does (takenFirst Sdi (viewRings l))) (does (takenFirst Sdi (viewRings m))) refl refl refl refl
+  taken-blind Ibi = blind (does (takenFirst Ibi (viewRings l))) (does (takenFirst Ibi (viewRings m))) refl refl refl refl
 
   levels-same : (q : Queue) → empty (of q (viewRings m .queues)) ≡ empty (of q (viewRings l .queues))
   levels-same Cmd = refl
@@ -120,7 +120,7 @@ module _ (l : Controller) (o : List ℕ) where
   take-blind : (q : Queue) → Blind (read (takes q) (viewRings l)) (read (takes q) (viewRings m))
   take-blind q = rw (levels-same q) (both (empty (of q (viewRings l .queues))))
     where
-      both : (b : Bool) → Blind (cond b (does (shownAgain q (viewRings l))) (does (taken q (viewRings l)))) (cond b (does (shownAgain q (viewRings m))) (does (taken q (viewRings m))))
+      both : (b : Bool) → Blind (cond b (does (shownAgain q (viewRings l))) (does (takenFirst q (viewRings l)))) (cond b (does (shownAgain q (viewRings m))) (does (takenFirst q (viewRings m))))
       both true = again-blind q
       both false = taken-blind q
 

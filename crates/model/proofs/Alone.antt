@@ -21,7 +21,7 @@ use Rattle.model.specs.declared.Call.{Call}
 use Rattle.model.specs.declared.Call.the-variants.{Read, Write, Start, Send, Receive, Finish, Interrupt, Request, Take, Trigger}
 use Rattle.model.specs.View.{Queue, Cmd, Cmdr, Sdo, Sdi, Ibi, of, empty, View}
 use Rattle.model.specs.Decision.{Decision, does, first, effect}
-use Rattle.model.specs.Registers.{Cell, Row, absent, shows, holds, pushes, takes, enables, acknowledges, row, enable, taken, shownAgain, read, write}
+use Rattle.model.specs.Registers.{Cell, Row, absent, shows, holds, pushes, takes, enables, acknowledges, row, enable, takenFirst, shownAgain, read, write}
 use Rattle.model.specs.Calls.{busy, start, send, receive, finish, interrupt, request, takeAddress}
 use Rattle.model.specs.Bursts.{burstAt, trigger, burstSend, burstReceive, burstFinish, decide}
 use Rattle.model.specs.Engine.{Step, outcome, step}
@@ -95,7 +95,7 @@ module _ (m n : Controller) where
   same : Beside m (graft m n)
   same = record { queues = refl; store = refl; control = refl }
 
-  took : (q : Queue) → Beside (settleRings m (taken q (viewRings m))) (settleRings (graft m n) (taken q (viewRings (graft m n))))
+  took : (q : Queue) → Beside (settleRings m (takenFirst q (viewRings m))) (settleRings (graft m n) (takenFirst q (viewRings (graft m n))))
   took Cmd = record { queues = refl; store = refl; control = refl }
   took Cmdr = record { queues = refl; store = refl; control = refl }
   took Sdo = record { queues = refl; store = refl; control = refl }
@@ -117,7 +117,7 @@ module _ (m n : Controller) where
   read-beside (pushes q) = same
   read-beside (takes q) = rw (level-same q) (takes-beside (empty (of q (viewRings m .queues))))
     where
-      takes-beside : (b : Bool) → (let d = viewRings m in let e = viewRings (graft m n) in Beside (acted m (cond b (does (shownAgain q d)) (does (taken q d)))) (acted (graft m n) (cond b (does (shownAgain q e)) (does (taken q e)))))
+      takes-beside : (b : Bool) → (let d = viewRings m in let e = viewRings (graft m n) in Beside (acted m (cond b (does (shownAgain q d)) (does (takenFirst q d)))) (acted (graft m n) (cond b (does (shownAgain q e)) (does (takenFirst q e)))))
       takes-beside true = same
       takes-beside false = took q
   read-beside enables = same

@@ -28,7 +28,7 @@ use Rattle.bank.specs.Bits.{bit, bits}
 use Rattle.model.specs.View.{Queue, Cmd, Cmdr, Sdo, Sdi, Ibi, of, View}
 use Rattle.model.specs.Decision.{QueueOp, take, only, Effect, Decision, does, _⇒_∣_, first, effect}
 use Rattle.model.specs.Commands.{receiptWord}
-use Rattle.model.specs.Registers.{Cell, scratch, mask, ops, ibiConfig, devChar, watermark, offloadCmd, offloadSdo, Row, absent, shows, holds, pushes, takes, enables, acknowledges, row, shown, clears, released, noted, taken, countOf, countsWith, burstHolds, aboveCapacity, enable, read, write}
+use Rattle.model.specs.Registers.{Cell, scratch, mask, ops, ibiConfig, devChar, watermark, offloadCmd, offloadSdo, Row, absent, shows, holds, pushes, takes, enables, acknowledges, row, shown, clears, released, remembered, takenFirst, countOf, countsWith, burstHolds, aboveCapacity, enable, read, write}
 use Rattle.model.specs.Calls.{allowed, finish}
 use Rattle.model.specs.Bursts.{shortInBurst, decide}
 use Rattle.bank.specs.Bursts.{bursting}
@@ -166,7 +166,7 @@ pub read-changes-nothing : ReadChangesNothing
 unfolding ReadChangesNothing
 read-changes-nothing l o h = by-outcome (λ r. r .next ≡ l) l (Read o) (λ n k. refl) (λ f z p. plain-read l (row (registerAt o)) h)
 
-take-stores-none : (l : Controller) (q : Queue) → settleRings l (taken q (viewRings l)) .store ≡ l .store
+take-stores-none : (l : Controller) (q : Queue) → settleRings l (takenFirst q (viewRings l)) .store ≡ l .store
 unfolding onStore
 take-stores-none l Cmd = refl
 take-stores-none l Cmdr = refl
@@ -178,7 +178,7 @@ cleared-if : (b old : Bool) → (not b && old) ≡ cond b false old
 cleared-if true old = refl
 cleared-if false old = refl
 
-control-after : (q : Queue) (b : Bool) (v : ℕ) (c : Control) → sameQueue Sdo q ≡ false → ControlAfter q b v c (noted q v (clears q b c))
+control-after : (q : Queue) (b : Bool) (v : ℕ) (c : Control) → sameQueue Sdo q ≡ false → ControlAfter q b v c (remembered q v (clears q b c))
 control-after Cmd b v c h = record { held = refl; sync = refl; ibisync = refl; cmdrpending = refl; ibipending = refl; daapending = refl; burst = refl; latest = refl }
 control-after Cmdr b v c h = record { held = refl; sync = refl; ibisync = refl; cmdrpending = cleared-if b (c .cmdrpending); ibipending = refl; daapending = refl; burst = refl; latest = refl }
 control-after Sdo b v c h = absurd (true≢false h)
@@ -210,7 +210,7 @@ some-left : (n m : ℕ) → n ≡ m → (n ≡ 0 → ⊥) → 1 ≤ m
 some-left zero m e k = absurd (k refl)
 some-left (suc n) m e k = omega (arith, e)
 
-one-less : (l : Controller) (q : Queue) → wellFormed (l .bank) ≡ true → RightLength l → eqb (of q (viewRings l .queues) .level) 0 ≡ false → heldWords q (settleRings l (taken q (viewRings l))) ≡ drop 1 (heldWords q l)
+one-less : (l : Controller) (q : Queue) → wellFormed (l .bank) ≡ true → RightLength l → eqb (of q (viewRings l .queues) .level) 0 ≡ false → heldWords q (settleRings l (takenFirst q (viewRings l))) ≡ drop 1 (heldWords q l)
 unfolding onRing
 one-less l q f z h =
     let k = queuesIn (l .bank) in
@@ -222,7 +222,7 @@ one-less l q f z h =
     ∙ ap (λ (x : Area). wordsIn x (l .store)) at
     ∙ entries-take (a .ring) (a .base) (l .store) 1 (some-left _ _ sameQueue some)
 
-took : (l : Controller) (q : Queue) → wellFormed (l .bank) ≡ true → RightLength l → sameQueue Sdo q ≡ false → eqb (of q (viewRings l .queues) .level) 0 ≡ false → (let e = taken q (viewRings l) in ReadTook l (settleRings l e) (e .value) q)
+took : (l : Controller) (q : Queue) → wellFormed (l .bank) ≡ true → RightLength l → sameQueue Sdo q ≡ false → eqb (of q (viewRings l .queues) .level) 0 ≡ false → (let e = takenFirst q (viewRings l) in ReadTook l (settleRings l e) (e .value) q)
 took l q f z h k =
     record { first = first-of l q; words = one-less l q f z k; store = take-stores-none l q; output = refl; regs = refl; phase = refl; flags = refl; commands = refl; payloads = refl; control = control-after q _ _ (l .bank .state .control) h }
 

@@ -1,4 +1,4 @@
--- `take.empty`: an empty queue shows the word last read from it. Every call moves the noted word as the list of answers says; so it is the
+-- `take.empty`: an empty queue shows the word last read from it. Every call moves the remembered word as the list of answers says; so it is the
 -- last one read along every list.
 use Prim.Native.Nat.{ℕ}
 use native.Mathlib.Omega.{arith}
@@ -19,7 +19,7 @@ use Rattle.model.specs.declared.Call.{Call}
 use Rattle.model.specs.declared.Call.the-variants.{Read, Write, Start, Send, Receive, Finish, Interrupt, Request, Take, Trigger}
 use Rattle.model.specs.View.{Queue, Cmd, Cmdr, Sdo, Sdi, Ibi, of, last, View}
 use Rattle.model.specs.Decision.{Decision, effect}
-use Rattle.model.specs.Registers.{Row, absent, shows, holds, pushes, takes, enables, acknowledges, row, clears, latestOf, noted, enable, read, write}
+use Rattle.model.specs.Registers.{Row, absent, shows, holds, pushes, takes, enables, acknowledges, row, clears, latestOf, remembered, enable, read, write}
 use Rattle.model.specs.Calls.{start, send, receive, finish, interrupt, request, takeAddress}
 use Rattle.model.specs.Bursts.{trigger, burstSend, burstReceive, burstFinish, decide}
 use Rattle.model.specs.Engine.{step, Lent, stepLent, final}
@@ -49,7 +49,7 @@ clears-latest Sdo b c = refl
 clears-latest Sdi b c = refl
 clears-latest Ibi b c = refl
 
-noted-at : (k q : Queue) (w : ℕ) (c : Control) → driverReads k ≡ true → latestOf k (noted q w c) ≡ cond (sameQueue q k) w (latestOf k c)
+noted-at : (k q : Queue) (w : ℕ) (c : Control) → driverReads k ≡ true → latestOf k (remembered q w c) ≡ cond (sameQueue q k) w (latestOf k c)
 noted-at Cmd q w c h = absurd (false≢true h)
 noted-at Sdo q w c h = absurd (false≢true h)
 noted-at Cmdr Cmd w c h = refl
@@ -84,7 +84,7 @@ module _ (k : Queue) (h : driverReads k ≡ true) (s : View) where
   abbrev before : ℕ
   before = latestOf k (s .control)
 
-  -- the noted word moves as the answer says
+  -- the remembered word moves as the answer says
   abbrev Moves : Call → Decision → Type 0
   Moves c d = latestOf k (effect d .control) ≡ lastBy k c (record { value = effect d .value; number = effect d .number }) before
 

@@ -19,7 +19,7 @@ use Rattle.bank.specs.Bits.{bit}
 use Rattle.model.specs.View.{Cmd, Cmdr, Sdo, Sdi, Ibi}
 use Rattle.model.specs.Decision.{Effect, Decision, first, effect}
 use Rattle.model.specs.Commands.{Command, firstWord, lengthOf, receiptWord}
-use Rattle.model.specs.Registers.{Row, absent, shows, holds, pushes, takes, enables, acknowledges, row, enable, taken, read, write}
+use Rattle.model.specs.Registers.{Row, absent, shows, holds, pushes, takes, enables, acknowledges, row, enable, takenFirst, read, write}
 use Rattle.model.specs.Calls.{command, advanced, start, send, receive, finish, interrupt, request, takeAddress}
 use Rattle.model.specs.Lists.{Lists, viewList, viewLists, settleLists}
 use Rattle.model.specs.Demand.{Event, enabled, word, wrote, sawRoom, bus, started, sent, received, addressed, finished, gotReceipt, other, Tally, Run, follow, directPhase, writeEvent, readEvent, countRun, change, nothing, moved, Fitting, Every, takenWords, joined, Each}
@@ -192,7 +192,7 @@ room-good : (o : Option Tally) (l : Lists) → Good o (key l) → Good (follow o
 room-good none l g = g
 room-good (some t) l g = record { isReleased = g .isReleased; inv = inv-room (t .words) (t .past) (t .receipts) (l .queues .cmd .cap) (key l .phase) (l .queues .cmd .words) (l .queues .cmdr .words) (l .control .sync) (t .now) (g .inv) }
 
-receipt-good : (o : Option Tally) (l : Lists) → eqb (length (l .queues .cmdr .words)) 0 ≡ false → Good o (key l) → Good (follow o (gotReceipt (getD (l .queues .cmdr .words) 0 0))) (key (settleLists l (taken Cmdr (viewLists l))))
+receipt-good : (o : Option Tally) (l : Lists) → eqb (length (l .queues .cmdr .words)) 0 ≡ false → Good o (key l) → Good (follow o (gotReceipt (getD (l .queues .cmdr .words) 0 0))) (key (settleLists l (takenFirst Cmdr (viewLists l))))
 receipt-good none l f g = record { isHeld = g .isHeld; isIdle = g .isIdle; noCommands = g .noCommands; noReceipts = ap (λ (q : List ℕ). drop 1 q) (g .noReceipts); noSync = g .noSync }
 receipt-good (some t) l f g =
     let q = l .queues .cmdr .words in

@@ -11,7 +11,7 @@ use Rattle.model.specs.declared.Call.the-variants.{Read, Write, Start, S
 use Rattle.bank.specs.Bits.{bit}
 use Rattle.model.specs.View.{of, empty, View}
 use Rattle.model.specs.Decision.{Effect, Decision, does, effect}
-use Rattle.model.specs.Registers.{Row, absent, shows, holds, pushes, takes, enables, acknowledges, row, enable, taken, shownAgain, read, write}
+use Rattle.model.specs.Registers.{Row, absent, shows, holds, pushes, takes, enables, acknowledges, row, enable, takenFirst, shownAgain, read, write}
 use Rattle.model.specs.Calls.{start, send, receive, finish, interrupt, request, takeAddress}
 use Rattle.model.specs.Bursts.{trigger, burstSend, burstReceive, burstFinish, decide}
 use Rattle.model.proofs.Tests.{of-two, of-take, refusals}
@@ -35,7 +35,7 @@ read-number s absent = refl
 read-number s (shows f) = refl
 read-number s (holds c) = refl
 read-number s (pushes q) = refl
-read-number s (takes q) = take-number (empty (of q (s .queues))) (shownAgain q s) (taken q s) refl refl
+read-number s (takes q) = take-number (empty (of q (s .queues))) (shownAgain q s) (takenFirst q s) refl refl
 read-number s enables = refl
 read-number s acknowledges = refl
 

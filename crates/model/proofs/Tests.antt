@@ -6,7 +6,7 @@ use mathlib.Core.Option.{none, some, Option·none-ne-some, Option·some-injectiv
 use lib.Dec.{eqb}
 use Rattle.model.specs.View.{Queue, of, empty, View}
 use Rattle.model.specs.Decision.{Decision, does, _⇒_∣_, first}
-use Rattle.model.specs.Registers.{takes, shownAgain, taken, read}
+use Rattle.model.specs.Registers.{takes, shownAgain, takenFirst, read}
 
 -- no test holds
 abbrev pub Passed : Decision → Type 0
@@ -24,8 +24,8 @@ of-two P true x y f g = f refl
 of-two P false x y f g = g refl
 
 -- what holds of both, of a read that takes from a queue
-pub of-take : (P : Decision → Type 0) (q : Queue) (s : View) → (empty (of q (s .queues)) ≡ true → P (does (shownAgain q s))) → (empty (of q (s .queues)) ≡ false → P (does (taken q s))) → P (read (takes q) s)
-of-take P q s f g = of-two P (empty (of q (s .queues))) (does (shownAgain q s)) (does (taken q s)) f g
+pub of-take : (P : Decision → Type 0) (q : Queue) (s : View) → (empty (of q (s .queues)) ≡ true → P (does (shownAgain q s))) → (empty (of q (s .queues)) ≡ false → P (does (takenFirst q s))) → P (read (takes q) s)
+of-take P q s f g = of-two P (empty (of q (s .queues))) (does (shownAgain q s)) (does (takenFirst q s)) f g
 
 -- no test answers 0, 3 or 19
 abbrev pub refusals : Decision → Bool

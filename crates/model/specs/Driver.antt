@@ -20,7 +20,7 @@ use Rattle.bank.specs.Bits.{bit, bits, wordIf}
 use Rattle.model.specs.View.{View, Queue, Cmdr, Sdo, Ibi, of, full, last}
 use Rattle.model.specs.Commands.{receiptWord}
 use Rattle.model.specs.Calls.{padded}
-use Rattle.model.specs.Registers.{Cell, scratch, mask, ops, ibiConfig, devChar, watermark, offloadCmd, offloadSdo, Row, absent, shows, holds, pushes, takes, enables, acknowledges, burstHolds, aboveCapacity, row, notedIn}
+use Rattle.model.specs.Registers.{Cell, scratch, mask, ops, ibiConfig, devChar, watermark, offloadCmd, offloadSdo, Row, absent, shows, holds, pushes, takes, enables, acknowledges, burstHolds, aboveCapacity, row, rememberedIn}
 use Rattle.model.specs.Engine.{step, Lent, lending, final}
 use Rattle.model.specs.Rings.{Controller, areas, wordsIn, viewRings, rings}
 use Rattle.model.specs.Laws.{freshController, sameQueue}
@@ -96,7 +96,7 @@ pub record ControlAfter (q : Queue) (emptied : Bool) (value : ℕ) (c d : Contro
   pub ibipending : d .ibipending ≡ cond (sameQueue Ibi q && emptied) false (c .ibipending)
   pub daapending : d .daapending ≡ c .daapending
   pub burst : d .burst ≡ c .burst
-  pub latest : d .latest ≡ notedIn q value (c .latest)
+  pub latest : d .latest ≡ rememberedIn q value (c .latest)
 
 abbrev pub heldWords : Queue → Controller → List ℕ
 heldWords q l = wordsIn (of q (areas (queuesIn (l .bank)))) (l .store)

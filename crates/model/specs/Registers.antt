@@ -197,16 +197,16 @@ latestOf Sdo c = 0
 latestOf Sdi c = c .latest .sdi
 latestOf Ibi c = c .latest .ibi
 
-abbrev pub notedIn : Queue → ℕ → Latest → Latest
-notedIn Cmd w l = l
-notedIn Cmdr w l = record { cmdr = w; sdi = l .sdi; ibi = l .ibi }
-notedIn Sdo w l = l
-notedIn Sdi w l = record { cmdr = l .cmdr; sdi = w; ibi = l .ibi }
-notedIn Ibi w l = record { cmdr = l .cmdr; sdi = l .sdi; ibi = w }
+abbrev pub rememberedIn : Queue → ℕ → Latest → Latest
+rememberedIn Cmd w l = l
+rememberedIn Cmdr w l = record { cmdr = w; sdi = l .sdi; ibi = l .ibi }
+rememberedIn Sdo w l = l
+rememberedIn Sdi w l = record { cmdr = l .cmdr; sdi = w; ibi = l .ibi }
+rememberedIn Ibi w l = record { cmdr = l .cmdr; sdi = l .sdi; ibi = w }
 
 -- w is the word last read from the queue
-abbrev pub noted : Queue → ℕ → Control → Control
-noted q w c = record { held = c .held; sync = c .sync; ibisync = c .ibisync; cmdrpending = c .cmdrpending; ibipending = c .ibipending; daapending = c .daapending; burst = c .burst; latest = notedIn q w (c .latest) }
+abbrev pub remembered : Queue → ℕ → Control → Control
+remembered q w c = record { held = c .held; sync = c .sync; ibisync = c .ibisync; cmdrpending = c .cmdrpending; ibipending = c .ibipending; daapending = c .daapending; burst = c .burst; latest = rememberedIn q w (c .latest) }
 
 -- ── ENABLE ────────────────────────────────────────────────────────────────────────────────────────────────────
 -- bit 0 written to ENABLE: 1 is `enable.reset`, which closes an open burst and forgets the words last read too (`cleared`) and leaves registers and tables
@@ -216,13 +216,13 @@ enable s true = unchanged s withControl cleared true withPhase Idle withQueues e
 enable s false = unchanged s withControl released (s .control)
 
 -- ── Reads of CMDR, SDI and IBI ────────────────────────────────────────────────────────────────────────────────
--- `take.read`: the first word leaves the queue and is noted
-abbrev pub taken : Queue → View → Effect
-taken q s =
+-- `take.read`: the first word leaves the queue and is remembered
+abbrev pub takenFirst : Queue → View → Effect
+takenFirst q s =
     let v = of q (s .queues) in
-    unchanged s withValue v .first withControl noted q (v .first) (clears q (last v) (s .control)) withQueues only q (take 1)
+    unchanged s withValue v .first withControl remembered q (v .first) (clears q (last v) (s .control)) withQueues only q (take 1)
 
--- `take.empty`: the word noted last is shown once more, with number 3, and nothing changes
+-- `take.empty`: the word remembered last is shown once more, with number 3, and nothing changes
 abbrev pub shownAgain : Queue → View → Effect
 shownAgain q s = unchanged s withValue latestOf q (s .control) withNumber number.empty
 
@@ -235,7 +235,7 @@ read absent s = true ⇒ number.noRegister ∣ does (unchanged s)
 read (shows f) s = does (unchanged s withValue f s)
 read (holds c) s = does (unchanged s withValue shown c s)
 read (pushes q) s = does (unchanged s)
-read (takes q) s = cond (empty (of q (s .queues))) (does (shownAgain q s)) (does (taken q s))
+read (takes q) s = cond (empty (of q (s .queues))) (does (shownAgain q s)) (does (takenFirst q s))
 read enables s = does (unchanged s withValue wordIf (s .control .held) 1)
 read acknowledges s = does (unchanged s withValue sources (s .regs .mask) s)
 

@@ -25,7 +25,7 @@ use Rattle.model.specs.Rings.{Controller, viewRings, settleRings, guardRings, r
 use Rattle.model.proofs.Tests.{of-two, of-take}
 use Rattle.model.proofs.Numbers.{emptied, read-number, write-number}
 use Rattle.model.proofs.Laws.{stays-at-3}
-use Rattle.numbers_model.specs.Numbers.{numbers, ends, shown, among, inOrder, tested, Answered, Demand1}
+use Rattle.numbers_model.specs.Numbers.{numbers, ends, valued, among, inOrder, tested, Answered, Demand1}
 
 -- ── The order ─────────────────────────────────────────────────────────────────────────────────────────────────
 -- behind the two tests of bank and store
@@ -110,7 +110,7 @@ one-of false m n ns h k = k
 abbrev Ends : List ℕ → Decision → Type 0
 Ends ns d = among (effect d .number) ns ≡ true
 
-ended : (s : View) (c : Call) → Ends (ends c ++ shown c) (decide s c)
+ended : (s : View) (c : Call) → Ends (ends c ++ valued c) (decide s c)
 unfolding start send receive finish interrupt request takeAddress trigger burstSend burstReceive burstFinish
 ended s (Read o) = rw (read-number s (row (registerAt o))) (one-of (emptied (row (registerAt o)) s) 3 0 (0 ∷ 3 ∷ []) refl refl)
 ended s (Write o v) = rw (write-number s (row (registerAt o)) v)
@@ -124,7 +124,7 @@ ended s Take = one-of (eqb (ones (s .queues .sdo .first / 2 ^ 24) % 2) 1) 0 19 (
 ended s Trigger = refl
 
 -- the numbers of effects are in the table
-in-table : (c : Call) → inOrder (ends c ++ shown c) (ends c ++ numbers c) ≡ true
+in-table : (c : Call) → inOrder (ends c ++ valued c) (ends c ++ numbers c) ≡ true
 in-table (Read o) = refl
 in-table (Write o v) = refl
 in-table Start = refl
@@ -137,7 +137,7 @@ in-table Take = refl
 in-table Trigger = refl
 
 -- an effect that has no number of `ends` has 3
-three-of : (c : Call) (n : ℕ) → among n (ends c ++ shown c) ≡ true → among n (ends c) ≡ false → n ≡ 3
+three-of : (c : Call) (n : ℕ) → among n (ends c ++ valued c) ≡ true → among n (ends c) ≡ false → n ≡ 3
 three-of (Read o) n h f = eqb-true n 3 (last-of (eqb n 0) (eqb n 3) h f)
   where
     last-of : (a b : Bool) → (a || (b || false)) ≡ true → (a || false) ≡ false → b ≡ true
@@ -164,7 +164,7 @@ module _ (l : Controller) (c : Call) where
   numbered = go (first decision) refl
     where
       go : (k : Option ℕ) → first decision ≡ k → among (outcome k (effect decision) l (settleRings l (effect decision)) .answer .number) (ends c ++ numbers c) ≡ true
-      go none e = within-among (effect decision .number) (ends c ++ shown c) (ends c ++ numbers c) (in-table c) (ended (viewRings l) c)
+      go none e = within-among (effect decision .number) (ends c ++ valued c) (ends c ++ numbers c) (in-table c) (ended (viewRings l) c)
       go (some n) e = among-right n (ends c) (numbers c) (within-among n (tested decision) (numbers c) (ordered l c) (first-tested decision n e))
 
   unchanged : among (step rings l c .answer .number) (ends c) ≡ false → step rings l c .next ≡ l
@@ -175,11 +175,11 @@ module _ (l : Controller) (c : Call) where
       go none e f = stays-at-3 l c (three-of c (effect decision .number) (ended (viewRings l) c) f)
       go (some n) e f = refl
 
-  silent : among (step rings l c .answer .number) (ends c ++ shown c) ≡ false → step rings l c .answer .value ≡ 0
+  silent : among (step rings l c .answer .number) (ends c ++ valued c) ≡ false → step rings l c .answer .value ≡ 0
   unfolding step guardRings
   silent = go (first decision) refl
     where
-      go : (k : Option ℕ) → first decision ≡ k → let r = outcome k (effect decision) l (settleRings l (effect decision)) in among (r .answer .number) (ends c ++ shown c) ≡ false → r .answer .value ≡ 0
+      go : (k : Option ℕ) → first decision ≡ k → let r = outcome k (effect decision) l (settleRings l (effect decision)) in among (r .answer .number) (ends c ++ valued c) ≡ false → r .answer .value ≡ 0
       go none e f = absurd (false≢true (sym f ∙ ended (viewRings l) c))
       go (some n) e f = refl
 

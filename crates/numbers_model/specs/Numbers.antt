@@ -45,17 +45,17 @@ ends Take = 0 ∷ number.wrongParity ∷ []
 ends Trigger = 0 ∷ []
 
 -- `take.empty`: what else has a value, besides these
-abbrev pub shown : Call → List ℕ
-shown (Read o) = number.empty ∷ []
-shown (Write o v) = []
-shown Start = []
-shown Send = []
-shown (Receive byte) = []
-shown (Finish code) = []
-shown (Interrupt a byte) = []
-shown (Request v w) = []
-shown Take = []
-shown Trigger = []
+abbrev pub valued : Call → List ℕ
+valued (Read o) = number.empty ∷ []
+valued (Write o v) = []
+valued Start = []
+valued Send = []
+valued (Receive byte) = []
+valued (Finish code) = []
+valued (Interrupt a byte) = []
+valued (Request v w) = []
+valued Take = []
+valued Trigger = []
 
 abbrev pub among : ℕ → List ℕ → Bool
 among n [] = false
@@ -80,7 +80,7 @@ pub record Answered (l : Controller) (c : Call) : Type 0 where
   pub numbered : among (step rings l c .answer .number) (ends c ++ numbers c) ≡ true
   -- `answer.refusal`: a refusal changes nothing, and its value is 0 but for an empty read's
   pub unchanged : among (step rings l c .answer .number) (ends c) ≡ false → step rings l c .next ≡ l
-  pub silent : among (step rings l c .answer .number) (ends c ++ shown c) ≡ false → step rings l c .answer .value ≡ 0
+  pub silent : among (step rings l c .answer .number) (ends c ++ valued c) ≡ false → step rings l c .answer .value ≡ 0
 
 -- of every call, and of set-up (`set-up.fresh`, `set-up.refused`)
 pub record Demand1 : Type 0 where

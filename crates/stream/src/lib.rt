@@ -7,7 +7,7 @@ ghost use lib.ListN.{length};
 ghost use Rattle.answer.specs.Memory.{bankLentStore};
 ghost use Rattle.trace_model.specs.Head.{headOf};
 ghost use Rattle.stream_model.specs.Stream.{openedBy, streamFed};
-ghost use Rattle.stream_end.specs.Given.{fedLeft, Within};
+ghost use Rattle.stream_end.specs.Given.{fedLeft, Bounded};
 use bank::Bank;
 use stream_end::StreamTurn;
 use stream_model::Stage;
@@ -16,7 +16,7 @@ use trace_model::Head;
 // The first piece: a layer, no interface.
 fn open(b: Bank, store: &mut [u32], bytes: &[u8], out: &mut [u8]) -> StreamTurn
     requires { ⌜ length (now bytes) + 12 ≤ length (now out) ⌝ }
-    ensures { λ r. ⌜ (fedLeft r store out ≡ openedBy (bankLentStore b store) (now (bytes .entry)) (headOf (now (bytes .entry)))) × Within 518 r bytes out ⌝ }
+    ensures { λ r. ⌜ (fedLeft r store out ≡ openedBy (bankLentStore b store) (now (bytes .entry)) (headOf (now (bytes .entry)))) × Bounded 518 r bytes out ⌝ }
 {
     match trace::read_head(bytes) {
         Head::More => {
@@ -48,7 +48,7 @@ fn open(b: Bank, store: &mut [u32], bytes: &[u8], out: &mut [u8]) -> StreamTurn
 // for a line for each record, and one more; less than 518 bytes are left.
 pub fn feed(b: Bank, store: &mut [u32], stage: Stage, bytes: &[u8], out: &mut [u8]) -> StreamTurn
     requires { ⌜ length (now bytes) + 12 ≤ length (now out) ⌝ }
-    ensures { λ r. ⌜ (fedLeft r store out ≡ streamFed (bankLentStore b store) stage (now (bytes .entry))) × Within 518 r bytes out ⌝ }
+    ensures { λ r. ⌜ (fedLeft r store out ≡ streamFed (bankLentStore b store) stage (now (bytes .entry))) × Bounded 518 r bytes out ⌝ }
 {
     match stage {
         Stage::Opening => open(b, store, bytes, out),

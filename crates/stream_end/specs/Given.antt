@@ -16,5 +16,5 @@ abbrev pub fedLeft : StreamTurn → Param → Param → Stream
 fedLeft r s out = fedBy r (now (s .exit)) (now (out .exit))
 
 -- it fills no more of the text than there is, and uses the bytes of the piece but for the last few
-abbrev pub Within : ℕ → StreamTurn → Param → Param → Type 0
-Within few r bytes out = (r .count ≤ length (now (out .exit))) × (r .used ≤ length (now (bytes .entry))) × (length (now (bytes .entry)) < r .used + few)
+abbrev pub Bounded : ℕ → StreamTurn → Param → Param → Type 0
+Bounded few r bytes out = (r .count ≤ length (now (out .exit))) × (r .used ≤ length (now (bytes .entry))) × (length (now (bytes .entry)) < r .used + few)

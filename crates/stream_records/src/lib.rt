@@ -7,7 +7,7 @@ ghost use Prim.Native.Nat.{_≤_};
 ghost use lib.ListN.{length};
 ghost use Rattle.answer.specs.Memory.{bankLentStore};
 ghost use Rattle.stream_model.specs.Stream.{recordsOf};
-ghost use Rattle.stream_end.specs.Given.{fedLeft, Within};
+ghost use Rattle.stream_end.specs.Given.{fedLeft, Bounded};
 use bank::Bank;
 use stream_end::StreamTurn;
 use stream_model::Stage;
@@ -21,7 +21,7 @@ pub fn feed_records(
     out: &mut [u8],
 ) -> StreamTurn
     requires { ⌜ length (now bytes) + 12 ≤ length (now out) ⌝ }
-    ensures { λ r. ⌜ (fedLeft r store out ≡ recordsOf (bankLentStore b store) due (now (bytes .entry))) × Within 12 r bytes out ⌝ }
+    ensures { λ r. ⌜ (fedLeft r store out ≡ recordsOf (bankLentStore b store) due (now (bytes .entry))) × Bounded 12 r bytes out ⌝ }
 {
     let n = record::whole(due, bytes);
     let p = stream_lines::show(b, store, bytes, n, out);

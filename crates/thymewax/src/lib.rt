@@ -5,7 +5,7 @@
 ghost use mathlib.Core.Path.{_≡_};
 ghost use Rattle.image_model.specs.Image.{size};
 ghost use Rattle.host_model.specs.Host.{version, setUpIn, callOf, sectionIn};
-ghost use Rattle.host_parts.specs.Lent.{keptLent, keptLeft, lentAll, leftAll, fresh, sizes, gave, stepOn};
+ghost use Rattle.host_parts.specs.Lent.{keptLent, keptLeft, lentAll, leftAll, fresh, sizesGiven, gave, stepOn};
 use bank::Sizes;
 
 // The version of layout and calls: the header and the bindings have the same number.
@@ -43,7 +43,7 @@ pub extern "C" fn thymewax_set_up(
     ibimark: u32,
     id: u32,
 ) -> u32
-    ensures { λ n. ⌜ fresh n (keptLeft image flags commands payloads) ≡ setUpIn (keptLent image flags commands payloads) (sizes cmd cmdr sdo sdi ibi) (sizes cmdmark cmdrmark sdomark sdimark ibimark) id ⌝ }
+    ensures { λ n. ⌜ fresh n (keptLeft image flags commands payloads) ≡ setUpIn (keptLent image flags commands payloads) (sizesGiven cmd cmdr sdo sdi ibi) (sizesGiven cmdmark cmdrmark sdomark sdimark ibimark) id ⌝ }
 {
     if !host_parts::is_sized(image, flags, commands, payloads) {
         return number::NOT_WELL_FORMED;

@@ -10,7 +10,7 @@ use Rattle.answer.specs.Given.{controller}
 use Rattle.image_model.specs.Image.{kept}
 use Rattle.host_model.specs.Host.{callOf}
 use Rattle.host_model.proofs.Hosting.{no-bank, not-formed, formed-kept, no-call, one-call}
-use Rattle.host_parts.specs.Lent.{packed}
+use Rattle.host_parts.specs.Lent.{packedStep}
 use Rattle.host_parts.proofs.Kept.{said-by-parts, refuses}
 use Rattle.host_calls.proofs.step.Statement.{statement}
 use Rattle.host_calls.proofs.step.Tie as tie
@@ -85,7 +85,7 @@ returns-2 c =
     let w = sym (tested .before .parts-formed .ensures (a .payloads .now)) ∙ not-false _ (tested .if1 .left) in
     let t = formed-kept k (p .pre .1) (p .pre .2) ∙ ap wellFormed (sym b) ∙ w in
     let s = ap (λ (x : Bank). step rings (controller x (a .store .now) (a .output .now)) (g .0 .0)) b in
-    made .make .ensures ∙ ap packed (one-call k (a .store .now) (a .output .now) q (g .0 .0) _ t (sym (named .call-of .ensures) ∙ g .1) s)
+    made .make .ensures ∙ ap packedStep (one-call k (a .store .now) (a .output .now) q (g .0 .0) _ t (sym (named .call-of .ensures) ∙ g .1) s)
 
 same-length-5 : tie.Need-same-length-5
 same-length-5 c = search needs

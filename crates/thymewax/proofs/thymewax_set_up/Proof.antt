@@ -4,7 +4,7 @@ use borrow.Author.Needs.{needs}
 use borrow.Author.Tests.{not-true, not-false}
 use Rattle.image_model.specs.Image.{kept}
 use Rattle.host_model.proofs.Hosting.{no-size}
-use Rattle.host_parts.specs.Lent.{sizes}
+use Rattle.host_parts.specs.Lent.{sizesGiven}
 use Rattle.host_parts.proofs.Kept.{long}
 use Rattle.thymewax.proofs.thymewax_set_up.Statement.{statement}
 use Rattle.thymewax.proofs.thymewax_set_up.Tie as tie
@@ -19,8 +19,8 @@ returns : tie.Need-returns
 returns c =
     let a = c .before .before .before .before .before .before .before .before .before .before .args in
     let k = kept (a .image .now) (a .flags .now) (a .commands .now) (a .payloads .now) in
-    let caps = sizes (a .cmd) (a .cmdr) (a .sdo) (a .sdi) (a .ibi) in
-    let marks = sizes (a .cmdmark) (a .cmdrmark) (a .sdomark) (a .sdimark) (a .ibimark) in
+    let caps = sizesGiven (a .cmd) (a .cmdr) (a .sdo) (a .sdi) (a .ibi) in
+    let marks = sizesGiven (a .cmdmark) (a .cmdrmark) (a .sdomark) (a .sdimark) (a .ibimark) in
     no-size k caps marks (a .id) (sym (c .before .is-sized .ensures) ∙ not-true _ (c .if1 .taken))
 
 set-up-requires : tie.Need-set-up-requires

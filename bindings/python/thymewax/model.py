@@ -23,8 +23,8 @@ OUTPUT_WORDS = 16
 
 class SetUp(NamedTuple):
     """The numbers of a set-up: the queues' capacities and watermarks in words, and the ID. Those
-    that are not given are 01's session's. CMD and SDI have 2 to 1,024 words, the others 1 to 1,024;
-    a watermark is at most its queue's capacity, the ID at most 255."""
+    that are not given are 01's session's. CMD and SDI have 2 to 1,024 words, CMDR, SDO and IBI 1 to
+    1,024; a watermark is at most its queue's capacity, the ID at most 255."""
 
     cmd: int = 4
     cmdr: int = 4

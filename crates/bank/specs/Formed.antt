@@ -1,4 +1,4 @@
--- When a bank is well formed: 01, 'Numbers that come back', and 02 §3 of an open burst. What the types of the code already say (an ID below
+-- When a bank is well formed: 01, 'Numbers that come back', 02 §3 of an open burst and 02 §5 of the words last read. What the types of the code already say (an ID below
 -- 256, 128 flags, 32 bits) is not asked again.
 use Prim.Native.Nat.{ℕ, _-_, _*_, _%_, _^_}
 use mathlib.Core.Bool.{Bool, true, cond, not, _&&_, _||_}

@@ -9,8 +9,7 @@ use Rattle.bank.specs.declared.Transfer.{Transfer}
 use Rattle.bank.specs.declared.Phase.{Phase}
 use Rattle.bank.specs.declared.Phase.the-variants.{Idle, Writing, Reading, Unrequested, Requested, Answered}
 
--- its number, for an image
--- the number of a phase
+-- the number of a phase, for an image
 abbrev pub stage : Phase → ℕ
 stage Idle = 0
 stage (Writing t) = 1

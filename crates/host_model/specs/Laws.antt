@@ -35,10 +35,6 @@ NotKeptIsRefused = (k : Kept) → isKept k ≡ false
 unfoldable pub RefusedStays : Type 0
 RefusedStays = (p : Parsed) (k : Kept) (st o : List ℕ) → (let h = stepIn p k st o in let n = h .answer .number in (n ≡ 0 → ⊥) → (n ≡ number.wrongParity → ⊥) → h ≡ record { answer = h .answer; kept = k; store = st; output = o })
 
--- a number other than 0, 3 and 19: the value is 0
-unfoldable pub RefusedSilent : Type 0
-RefusedSilent = (p : Parsed) (k : Kept) (st o : List ℕ) → (let h = stepIn p k st o in let n = h .answer .number in (n ≡ 0 → ⊥) → (n ≡ number.empty → ⊥) → (n ≡ number.wrongParity → ⊥) → h .answer .value ≡ 0)
-
 -- likewise a replay, but for 27, which leaves what the records before it left, and the look-up of a section: all that is lent, the words for what is told too
 unfoldable pub RefusedReplayStays : Type 0
 RefusedReplayStays = (file : List ℕ) (i limit : ℕ) (k : Kept) (st ts : List ℕ)
@@ -47,6 +43,10 @@ RefusedReplayStays = (file : List ℕ) (i limit : ℕ) (k : Kept) (st ts : List 
 unfoldable pub RefusedSectionStays : Type 0
 RefusedSectionStays = (file : List ℕ) (i : ℕ) (ws : List ℕ)
     → (let n = sectionIn file i ws .number in (n ≡ 0 → ⊥) → sectionIn file i ws ≡ record { number = n; place = ws })
+
+-- a number other than 0, 3 and 19: the value is 0
+unfoldable pub RefusedSilent : Type 0
+RefusedSilent = (p : Parsed) (k : Kept) (st o : List ℕ) → (let h = stepIn p k st o in let n = h .answer .number in (n ≡ 0 → ⊥) → (n ≡ number.empty → ⊥) → (n ≡ number.wrongParity → ⊥) → h .answer .value ≡ 0)
 
 -- what is told, where there are words for it: how many records were done and the last one's answer; start and length of the section by the file's table
 unfoldable pub DoneIsTold : Type 0

@@ -192,7 +192,7 @@ only-takes Sdo = refl
 only-takes Sdi = refl
 only-takes Ibi = refl
 
-level-of : (l : Controller) (q : Queue) → of q (viewRings l .queues) .level ≡ of q (areas (queuesIn (l .bank))) .ring .level .0
+pub level-of : (l : Controller) (q : Queue) → of q (viewRings l .queues) .level ≡ of q (areas (queuesIn (l .bank))) .ring .level .0
 level-of l Cmd = refl
 level-of l Cmdr = refl
 level-of l Sdo = refl

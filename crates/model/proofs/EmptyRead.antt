@@ -6,30 +6,35 @@ use mathlib.Core.Path.{_≡_, refl, sym, _∙_, ap, subst}
 use mathlib.Core.Bool.{Bool, true, false, cond, _&&_, false≢true, true≢false}
 use mathlib.Core.List.{List, [], _∷_}
 use lib.Dec.{leb, eqb}
+use lib.ListN.{length}
 use borrow.Author.Tests.{eq-eqb, eqb-true}
+use Rattle.ring.proofs.Laws.{entries-length}
 use Rattle.bank.specs.declared.Latest.{Latest}
 use Rattle.bank.specs.declared.Control.{Control}
 use Rattle.bank.specs.declared.Answer.{Answer}
 use Rattle.bank.specs.declared.Sizes.{Sizes}
-use Rattle.bank.specs.SetUp.{sizesOk, cleared, bankOf, refusedSetUp, setUp}
+use Rattle.bank.specs.SetUp.{sizesOk, cleared, bankOf, refusedSetUp, setUp, total}
+use Rattle.bank.specs.Queues.{queuesIn}
 use Rattle.bank.specs.Bursts.{bursting}
 use Rattle.bank.specs.Bits.{bit}
 use Rattle.registers.specs.Map.{named, entryAt, registerAt}
 use Rattle.model.specs.declared.Call.{Call}
 use Rattle.model.specs.declared.Call.the-variants.{Read, Write, Start, Send, Receive, Finish, Interrupt, Request, Take, Trigger}
-use Rattle.model.specs.View.{Queue, Cmd, Cmdr, Sdo, Sdi, Ibi, of, last, View}
-use Rattle.model.specs.Decision.{Decision, effect}
+use Rattle.model.specs.View.{Queue, Cmd, Cmdr, Sdo, Sdi, Ibi, of, empty, last, View}
+use Rattle.model.specs.Decision.{Decision, first, effect}
 use Rattle.model.specs.Registers.{Row, absent, shows, holds, pushes, takes, enables, acknowledges, row, clears, latestOf, remembered, enable, read, write}
 use Rattle.model.specs.Calls.{start, send, receive, finish, interrupt, request, takeAddress}
 use Rattle.model.specs.Bursts.{trigger, burstSend, burstReceive, burstFinish, decide}
-use Rattle.model.specs.Engine.{step, Lent, stepLent, final}
-use Rattle.model.specs.Rings.{Controller, viewRings, rings}
+use Rattle.model.specs.Engine.{outcome, step, Lent, stepLent, final}
+use Rattle.model.specs.Rings.{Controller, areas, viewRings, settleRings, guardRings, rings}
 use Rattle.model.specs.Laws.{freshController, sameQueue, readNames}
 use Rattle.model.specs.BurstLaw.{resets}
-use Rattle.model.specs.EmptyRead.{readsFrom, lastBy, lastRead, EmptyShowsLast}
+use Rattle.model.specs.EmptyRead.{readsFrom, lastBy, lastRead, EmptyShowsLast, EmptyIsThree}
+use Rattle.model.specs.Driver.{heldWords}
 use Rattle.model.proofs.Tests.{of-two, of-take}
 use Rattle.model.proofs.Offsets.{driverReads, enablesNot, enables-not, taken-by-driver}
 use Rattle.model.proofs.Laws.{by-outcome}
+use Rattle.model.proofs.Driver.{level-of}
 
 abbrev latest : Queue → Controller → ℕ
 latest k l = latestOf k (l .bank .state .control)
@@ -178,3 +183,19 @@ empty-shows-last caps marks id store cs k o e n =
     let h = taken-by-driver o k e in
     let fresh = freshController caps marks id store in
     shown-again k h (final rings fresh cs) o e n ∙ along k h cs fresh ∙ ap (lastRead k fresh cs) (fresh-latest caps marks id store k)
+
+-- ── When a queue is empty ─────────────────────────────────────────────────────────────────────────────────────
+words-there : (l : Controller) (k : Queue) → length (heldWords k l) ≡ of k (viewRings l .queues) .level
+words-there l k = let a = of k (areas (queuesIn (l .bank))) in entries-length (a .ring) (a .base) (l .store) ∙ sym (level-of l k)
+
+pub empty-is-three : EmptyIsThree
+unfolding EmptyIsThree step guardRings
+empty-is-three l k o e f z =
+    rw (f, eq-eqb (length (l .store)) (total (l .bank .state .caps)) z, e)
+    (of-take (λ d. outcome (first d) (effect d) l (settleRings l (effect d)) .answer .number ≡ answered) k (viewRings l) (λ a. sym (at true a)) (λ a. sym (at false a)))
+  where
+    answered : ℕ
+    answered = cond (eqb (length (heldWords k l)) 0) 3 0
+
+    at : (b : Bool) → empty (of k (viewRings l .queues)) ≡ b → answered ≡ cond b 3 0
+    at b a = ap (λ (n : ℕ). cond (eqb n 0) 3 0) (words-there l k) ∙ ap (λ (x : Bool). cond x 3 0) a

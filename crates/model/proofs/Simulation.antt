@@ -38,7 +38,7 @@ pub record Sound (l : Controller) (m : Lists) : Type 0 where
 abbrev decision : Controller → Call → Effect
 decision l c = effect (decide (viewRings l) c)
 
-capped : (l : Controller) → Capped (l .bank .state .caps) (viewRings l)
+pub capped : (l : Controller) → Capped (l .bank .state .caps) (viewRings l)
 capped l Cmd = refl
 capped l Cmdr = refl
 capped l Sdo = refl

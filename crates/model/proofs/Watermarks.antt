@@ -1,8 +1,8 @@
 -- `watermark.keeps`: a write to a watermark changes that one alone, and no other call changes any.
 use Prim.Native.Nat.{ℕ, _%_, _^_}
 use mathlib.Core.Path.{_≡_, refl, sym, _∙_, ap, subst}
-use mathlib.Core.Bool.{Bool, true, false, true≢false}
-use lib.Dec.{eqb}
+use mathlib.Core.Bool.{Bool, true, false, cond, true≢false}
+use lib.Dec.{ltb, eqb}
 use lib.ListN.{length}
 use Rattle.bank.specs.declared.Counts.{Counts}
 use Rattle.bank.specs.declared.Regs.{Regs}
@@ -21,12 +21,13 @@ use Rattle.model.specs.Bursts.{trigger, burstSend, burstReceive, burstFi
 use Rattle.model.specs.Engine.{Step, step}
 use Rattle.model.specs.Rings.{Controller, onRing, onStore, viewRings, settleRings, guardRings, rings}
 use Rattle.model.specs.Laws.{StaysWellFormed, sameQueue}
-use Rattle.model.specs.Watermarks.{marksCell, marksRow, marks, WatermarksStay, withMark, WatermarkAlone}
+use Rattle.model.specs.Watermarks.{marksCell, marksRow, marks, WatermarksStay, WatermarkBound, withMark, WatermarkAlone}
+use Rattle.model.specs.Driver.{PlainWriteTaken}
 use Rattle.model.proofs.Tests.{of-two}
 use Rattle.model.proofs.Formed.{read-untouched}
-use Rattle.model.proofs.Simulation.{stays-well-formed}
+use Rattle.model.proofs.Simulation.{capped, stays-well-formed}
 use Rattle.model.proofs.Laws.{by-outcome}
-use Rattle.model.proofs.Driver.{served}
+use Rattle.model.proofs.Driver.{served, plain-write-taken}
 
 -- ── What stays ────────────────────────────────────────────────────────────────────────────────────────────────
 others-count : (k q : Queue) (x : ℕ) (m : Counts) → sameQueue k q ≡ false → countOf q (countsWith k x m) ≡ countOf q m
@@ -104,6 +105,11 @@ pub watermarks-stay : WatermarksStay
 unfolding WatermarksStay
 watermarks-stay l c q e =
     by-outcome (λ r. countOf q (r .next .bank .state .regs .marks) ≡ countOf q (l .bank .state .regs .marks)) l c (λ n k. refl) (λ f z p. keeps q (viewRings l) c e)
+
+-- ── Which writes are taken ────────────────────────────────────────────────────────────────────────────────────
+pub watermark-bound : WatermarkBound
+unfolding WatermarkBound PlainWriteTaken
+watermark-bound l o v q e f z = plain-write-taken l o v (watermark q) e f z ∙ ap (λ (k : ℕ). record { value = 0; number = cond (ltb k (v % 2 ^ 16)) 30 0 }) (capped l q)
 
 -- ── What a write changes ──────────────────────────────────────────────────────────────────────────────────────
 set-mark : (l : Controller) (v : ℕ) (q : Queue) → settleRings l (effect (write (holds (watermark q)) (viewRings l) v)) ≡ withMark q (v % 2 ^ 16) l

@@ -1,4 +1,4 @@
--- The worked session of 01, 'A session', and the cases that it marks P, in one table: calls on the session's bank, then calls with their
+-- The worked session of 01, 'A session', with 02 §5's last answer, and the cases that 01 marks P, in one table: calls on the session's bank, then calls with their
 -- answers.
 use Prim.Native.Nat.{ℕ, zero, suc}
 use mathlib.Core.Path.{_≡_}

@@ -119,7 +119,7 @@ ReadTakesOne =
     (l : Controller) (o : ℕ) (q : Queue) → row (registerAt o) ≡ takes q → sameQueue Sdo q ≡ false → step rings l (Read o) .answer .number ≡ 0 → ReadTook l (step rings l (Read o) .next) (step rings l (Read o) .answer .value) q
 
 -- ── Reset and release: `enable.reset`, `enable.release`, `enable.keeps` ───────────────────────────────────────
--- after a release: no transfer, syncs and pending bits 0, all queues empty, whatever was before
+-- after a release: no transfer and no burst, syncs and pending bits 0, no word last read, all queues empty, whatever was before
 pub record Clean (l : Controller) : Type 0 where
   pub control : l .bank .state .control ≡ cleared false
   pub phase : idle (l .bank .state .phase) ≡ true

@@ -4,10 +4,12 @@ use mathlib.Core.Path.{_≡_}
 use mathlib.Core.Bool.{Bool, true, false, cond}
 use mathlib.Core.List.{List, [], _∷_}
 use lib.Dec.{eqb}
+use lib.ListN.{length}
 use Rattle.number.specs.Names as number
 use Rattle.bank.specs.declared.Sizes.{Sizes}
 use Rattle.bank.specs.declared.Answer.{Answer}
-use Rattle.bank.specs.SetUp.{setUp}
+use Rattle.bank.specs.SetUp.{total}
+use Rattle.bank.specs.Formed.{wellFormed}
 use Rattle.registers.specs.Map.{registerAt}
 use Rattle.model.specs.declared.Call.{Call}
 use Rattle.model.specs.declared.Call.the-variants.{Read, Write, Start, Send, Receive, Finish, Interrupt, Request, Take, Trigger}
@@ -17,6 +19,7 @@ use Rattle.model.specs.Engine.{step, Lent, stepLent, final}
 use Rattle.model.specs.Rings.{Controller, rings}
 use Rattle.model.specs.Laws.{freshController, readNames}
 use Rattle.model.specs.BurstLaw.{resets}
+use Rattle.model.specs.Driver.{heldWords}
 use Rattle.model.specs.Cases.{_⇝_·_, Case, _then_, allHold, release, device8}
 
 -- the call is a read of the register that takes from the queue k
@@ -51,13 +54,20 @@ EmptyShowsLast =
     let r = step rings (final rings fresh cs) (Read o) in
     r .answer .number ≡ number.empty → r .answer .value ≡ lastRead k fresh cs 0
 
+-- ── When a queue is empty ─────────────────────────────────────────────────────────────────────────────────────
+-- on a well-formed bank with its store, a read of the queue k is answered 3 exactly where the queue has no word
+unfoldable pub EmptyIsThree : Type 0
+EmptyIsThree =
+    (l : Controller) (k : Queue) (o : ℕ) → row (registerAt o) ≡ takes k → wellFormed (l .bank) ≡ true → length (l .store) ≡ total (l .bank .state .caps)
+    → step rings l (Read o) .answer .number ≡ cond (eqb (length (heldWords k l)) 0) number.empty 0
+
 -- ── Worked sessions ───────────────────────────────────────────────────────────────────────────────────────────
 -- before any word was read, in reset and out of it
 unfoldable pub noneYet : Case
 noneYet = [] then Read 0xd8 ⇝ 0 · 3 ∷ release ⇝ 0 · 0 ∷ Read 0xd8 ⇝ 0 · 3 ∷ Read 0xe0 ⇝ 0 · 3 ∷ Read 0xe4 ⇝ 0 · 3 ∷ []
 
--- an interrupt entry, two received bytes and their receipt: each queue shows its own word, as often as it is read, and a queue with a word
--- that nobody has read yet shows none of it
+-- an interrupt entry, two received bytes and their receipt: each queue shows its own word, as often as it is read, and 0 as long as nothing
+-- was read from it, whatever another has given
 unfoldable pub eachItsOwn : Case
 eachItsOwn =
     release ∷ device8 ∷ Write 0x140 3 ∷ Interrupt 8 0x5a ∷ Write 0xd4 0x211 ∷ Start ∷ Receive 0xa1 ∷ Receive 0xb2 ∷ []

@@ -21,8 +21,7 @@ pub record Step (B : Type 0) : Type 0 where
   pub next : B
 
 -- `answer.refusal`: where a test held, its number comes with the value 0 and the state before; else the effect's answer with the state
--- after it. The numbers of effects are 0, 19 (`answer.refusal`) and 3, whose effect changes
--- nothing (`take.empty`).
+-- after it. The numbers of effects are 0, 19, and 3, whose effect changes nothing (`take.empty`).
 abbrev pub outcome : {B : Type 0} → Option ℕ → Effect → B → B → Step B
 outcome (some n) e before after = record { answer = record { value = 0; number = n }; next = before }
 outcome none e before after = record { answer = record { value = e .value; number = e .number }; next = after }

@@ -1,4 +1,4 @@
--- One row for each register of 01's map: what a read is answered and what a write does follow from the row alone.
+-- One row for each register of the map: what a read is answered and what a write does follow from the row alone.
 use Prim.Native.Nat.{ℕ, _+_, _*_, _%_, _^_}
 use mathlib.Core.Bool.{Bool, true, false, cond, not, _&&_}
 use lib.Dec.{ltb, eqb}
@@ -209,8 +209,8 @@ abbrev pub remembered : Queue → ℕ → Control → Control
 remembered q w c = record { held = c .held; sync = c .sync; ibisync = c .ibisync; cmdrpending = c .cmdrpending; ibipending = c .ibipending; daapending = c .daapending; burst = c .burst; latest = rememberedIn q w (c .latest) }
 
 -- ── ENABLE ────────────────────────────────────────────────────────────────────────────────────────────────────
--- bit 0 written to ENABLE: 1 is `enable.reset`, which closes an open burst and forgets the words last read too (`cleared`) and leaves registers and tables
--- (`enable.keeps`); 0 is `enable.release`
+-- bit 0 written to ENABLE: 1 is `enable.reset`, which closes an open burst and forgets the words last read too (`cleared`), and leaves
+-- registers and tables (`enable.keeps`); 0 is `enable.release`
 unfoldable pub enable : View → Bool → Effect
 enable s true = unchanged s withControl cleared true withPhase Idle withQueues each clear clear clear clear clear
 enable s false = unchanged s withControl released (s .control)
@@ -240,8 +240,8 @@ read enables s = does (unchanged s withValue wordIf (s .control .held) 1)
 read acknowledges s = does (unchanged s withValue sources (s .regs .mask) s)
 
 -- A write, by the register's row (`access.order`). Without a register it is 4, to one that is only read 2 (`map.read-only`), to one that an
--- open burst holds 6 (`burst.holds`), to a watermark 30 where it would be above the capacity (`watermark.keeps`). CMD and SDO take the word, with 5 in reset and 1 where they are full (`cmd.push`, `sdo.push`). All
--- else is 0, whatever bits are set (`map.ignored`).
+-- open burst holds 6 (`burst.holds`), to a watermark 30 where it would be above the capacity (`watermark.keeps`). CMD and SDO take the
+-- word, with 5 in reset and 1 where they are full (`cmd.push`, `sdo.push`). All else is 0, whatever bits are set (`map.ignored`).
 abbrev pub write : Row → View → ℕ → Decision
 write absent s v = true ⇒ number.noRegister ∣ does (unchanged s)
 write (shows f) s v = true ⇒ number.droppedReadOnly ∣ does (unchanged s)

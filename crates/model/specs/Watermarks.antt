@@ -1,8 +1,13 @@
 -- Watermarks that the driver sets, 02 §6: what a write to one changes, that nothing else moves one, and worked sessions.
 use Prim.Native.Nat.{ℕ, _%_, _^_}
 use mathlib.Core.Path.{_≡_}
-use mathlib.Core.Bool.{Bool, true, false}
+use mathlib.Core.Bool.{Bool, true, false, cond}
 use mathlib.Core.List.{List, [], _∷_}
+use lib.Dec.{ltb}
+use lib.ListN.{length}
+use Rattle.number.specs.Names as number
+use Rattle.bank.specs.SetUp.{total}
+use Rattle.bank.specs.Formed.{wellFormed}
 use Rattle.registers.specs.Map.{registerAt}
 use Rattle.model.specs.declared.Call.{Call}
 use Rattle.model.specs.declared.Call.the-variants.{Read, Write, Start, Send, Receive, Finish, Interrupt, Request, Take, Trigger}
@@ -50,6 +55,13 @@ marks q Trigger = false
 unfoldable pub WatermarksStay : Type 0
 WatermarksStay = (l : Controller) (c : Call) (q : Queue) → marks q c ≡ false → countOf q (step rings l c .next .bank .state .regs .marks) ≡ countOf q (l .bank .state .regs .marks)
 
+-- ── Which writes are taken ────────────────────────────────────────────────────────────────────────────────────
+-- `watermark.keeps`: on a well-formed bank with its store, 30 exactly where the low 16 bits are above the capacity of that queue
+unfoldable pub WatermarkBound : Type 0
+WatermarkBound =
+    (l : Controller) (o v : ℕ) (q : Queue) → row (registerAt o) ≡ holds (watermark q) → wellFormed (l .bank) ≡ true → length (l .store) ≡ total (l .bank .state .caps)
+    → step rings l (Write o v) .answer ≡ record { value = 0; number = cond (ltb (countOf q (l .bank .state .caps)) (v % 2 ^ 16)) number.watermarkAboveCapacity 0 }
+
 -- ── What a write to one changes ───────────────────────────────────────────────────────────────────────────────
 -- the same controller with another watermark
 abbrev pub withMark : Queue → ℕ → Controller → Controller
@@ -82,8 +94,8 @@ WatermarkAlone =
 unfoldable pub eachItsOwnMark : Case
 eachItsOwnMark =
     [] then Read 0x200 ⇝ 1 · 0 ∷ Read 0x204 ⇝ 3 · 0 ∷ Read 0x208 ⇝ 1 · 0 ∷ Read 0x20c ⇝ 3 · 0 ∷ Read 0x210 ⇝ 3 · 0
-    ∷ Write 0x200 0 ⇝ 0 · 0 ∷ Write 0x204 1 ⇝ 0 · 0 ∷ Write 0x208 2 ⇝ 0 · 0 ∷ Write 0x20c 4 ⇝ 0 · 0 ∷ Write 0x210 2 ⇝ 0 · 0 ∷ release ⇝ 0 · 0 ∷ Write 0x040 1 ⇝ 0 · 0
-    ∷ Read 0x200 ⇝ 0 · 0 ∷ Read 0x204 ⇝ 1 · 0 ∷ Read 0x208 ⇝ 2 · 0 ∷ Read 0x20c ⇝ 4 · 0 ∷ Read 0x210 ⇝ 2 · 0 ∷ []
+    ∷ Write 0x200 0 ⇝ 0 · 0 ∷ Write 0x204 1 ⇝ 0 · 0 ∷ Write 0x208 3 ⇝ 0 · 0 ∷ Write 0x20c 4 ⇝ 0 · 0 ∷ Write 0x210 2 ⇝ 0 · 0 ∷ release ⇝ 0 · 0 ∷ Write 0x040 1 ⇝ 0 · 0
+    ∷ Read 0x200 ⇝ 0 · 0 ∷ Read 0x204 ⇝ 1 · 0 ∷ Read 0x208 ⇝ 3 · 0 ∷ Read 0x20c ⇝ 4 · 0 ∷ Read 0x210 ⇝ 2 · 0 ∷ []
 
 -- the capacity is taken, one more is not, and bits 31:16 count for nothing; beside the five registers there is none
 unfoldable pub upToTheCapacity : Case
@@ -91,11 +103,12 @@ upToTheCapacity =
     [] then Write 0x200 4 ⇝ 0 · 0 ∷ Write 0x200 5 ⇝ 0 · 30 ∷ Read 0x200 ⇝ 4 · 0 ∷ Write 0x200 0x00050002 ⇝ 0 · 0 ∷ Read 0x200 ⇝ 2 · 0 ∷ Write 0x200 0x0001ffff ⇝ 0 · 30 ∷ Read 0x200 ⇝ 2 · 0
     ∷ Write 0x202 0 ⇝ 0 · 4 ∷ Write 0x214 0 ⇝ 0 · 4 ∷ []
 
--- sources follow at once, and pending bits stay
+-- sources follow at once, those of each queue its own register, and pending bits stay: a receipt, a word received and an interrupt wait
 unfoldable pub sourcesFollow : Case
 sourcesFollow =
-    release ∷ device8 ∷ Write 0xd4 0x10 ∷ Start ∷ Finish 0 ∷ []
-    then Read 0x088 ⇝ 0x25 · 0 ∷ Write 0x200 0 ⇝ 0 · 0 ∷ Read 0x088 ⇝ 0x24 · 0 ∷ Write 0x204 0 ⇝ 0 · 0 ∷ Read 0x088 ⇝ 0x26 · 0 ∷ Write 0x204 1 ⇝ 0 · 0 ∷ Read 0x088 ⇝ 0x24 · 0 ∷ Write 0x208 0 ⇝ 0 · 0 ∷ Read 0x088 ⇝ 0x20 · 0 ∷ []
+    release ∷ device8 ∷ Write 0x140 3 ∷ Interrupt 8 0 ∷ Write 0xd4 0x111 ∷ Start ∷ Receive 0 ∷ Finish 0 ∷ []
+    then Read 0x088 ⇝ 0x65 · 0 ∷ Write 0x200 0 ⇝ 0 · 0 ∷ Read 0x088 ⇝ 0x64 · 0 ∷ Write 0x204 0 ⇝ 0 · 0 ∷ Read 0x088 ⇝ 0x66 · 0 ∷ Write 0x204 1 ⇝ 0 · 0 ∷ Read 0x088 ⇝ 0x64 · 0
+    ∷ Write 0x208 0 ⇝ 0 · 0 ∷ Read 0x088 ⇝ 0x60 · 0 ∷ Write 0x20c 0 ⇝ 0 · 0 ∷ Read 0x088 ⇝ 0x68 · 0 ∷ Write 0x210 0 ⇝ 0 · 0 ∷ Read 0x088 ⇝ 0x78 · 0 ∷ []
 
 -- an open burst holds none of them
 unfoldable pub whileABurstIsOpen : Case

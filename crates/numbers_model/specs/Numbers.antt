@@ -74,7 +74,8 @@ tested (b ⇒ n ∣ d) = n ∷ tested d
 
 -- ── The demand ────────────────────────────────────────────────────────────────────────────────────────────────
 pub record Answered (l : Controller) (c : Call) : Type 0 where
-  -- `answer.order`: the tests are made in the table's order, and the first that holds gives its number (`first`)
+  -- `answer.order`: the tests are made in the table's order, and the first that holds gives its number (`first`). 3 is no test's: it stands
+  -- behind them, as the number of an effect
   pub ordered : inOrder (tested (guardRings l (decide (viewRings l) c))) (numbers c) ≡ true
   -- the call ends with a number of the table
   pub numbered : among (step rings l c .answer .number) (ends c ++ numbers c) ≡ true

@@ -1,4 +1,4 @@
--- `map.offsets`: the registers with an offset of their own, and the two offload memories. 01, 'Register map'.
+-- `map.offsets`: the registers with an offset of their own, and the two offload memories. 01, 'Register map', and 02 §6 for the watermarks.
 use Prim.Native.Nat.{ℕ, _+_, _-_, _/_, _%_}
 use mathlib.Core.Bool.{Bool, cond, _&&_}
 use mathlib.Core.List.{List, [], _∷_}

@@ -41,6 +41,8 @@ OUT_OF_RANGE = [
 ]
 # The registers whose reads take a word, and their queues.
 TAKES = {Register.CMDR_FIFO: 'cmdr', Register.SDI_FIFO: 'sdi', Register.IBI_FIFO: 'ibi'}
+# The watermarks, in queue order.
+WATERMARKS = [one for one in Register if one.name.endswith('_WATERMARK')]
 THREADS, WRITES = 16, 200
 
 
@@ -259,6 +261,33 @@ def empty_reads():
         shown(name, 0, 0, 0)
 
 
+def watermarks():
+    """Each watermark by its register, in reset and released: at most the capacity, its source at
+    once, and kept over a reset."""
+    model = Model.set_up(cmd=6, cmdr=5, sdo=4, sdi=7, ibi=3)
+    sizes = [ring.capacity for ring in model.image().rings]
+    for enable in (1, 0):
+        model.write(Register.ENABLE, enable).done()
+        for place, (offset, size) in enumerate(zip(WATERMARKS, sizes)):
+            name = '%s, ENABLE %d' % (offset.name, enable)
+            for mark in (0, size, 1):
+                equal('watermarks', name, model.write(offset, 0x50000 | mark), Answer(0, Number.DONE))
+                equal('watermarks', name, (model.read(offset).value, model.image().rings[place].watermark),
+                      (mark, mark))
+                # Queues are empty: fewer words than that are in CMD and SDO, more in none.
+                equal('watermarks', name, bool(model.source() & 1 << place), place in (0, 2) and mark > 0)
+            before = memory(model)
+            for mark in (size + 1, 1025, 0xffff, WORD):
+                equal('watermarks', name, model.write(offset, mark),
+                      Answer(0, Number.WATERMARK_ABOVE_CAPACITY))
+            for beside in (offset + 2, WATERMARKS[-1] + 4):
+                equal('watermarks', name, model.write(beside, 0).number, Number.NO_REGISTER)
+            equal('watermarks', name, memory(model), before)
+    for enable in (1, 0):
+        model.write(Register.ENABLE, enable).done()
+        equal('watermarks', 'over a reset', [model.read(offset).value for offset in WATERMARKS], [1] * 5)
+
+
 def images():
     """The image by names is what the registers show; a refused call changes no word, and has a value
     only of an empty queue, the word last read from it; the first word of a queue is the next that a
@@ -280,6 +309,8 @@ def images():
                 latest = dict.fromkeys(TAKES, 0)
             equal('images', 'last read after %s' % (call,), image.latest, tuple(latest.values()))
             equal('images', 'levels after %s' % (call,), image.levels, shown_levels(model))
+            equal('images', 'watermarks after %s' % (call,), [ring.watermark for ring in image.rings],
+                  [model.read(offset).value for offset in WATERMARKS])
             equal('images', 'source after %s' % (call,), model.source(),
                   source_of(image, image.levels))
             equal('images', 'pending after %s' % (call,), model.shown(),
@@ -386,5 +417,5 @@ def threads():
 
 
 if __name__ == '__main__':
-    main('calls', [worked_session, every_call, empty_reads, truth, bursts, set_ups, ranges, no_calls,
-                   images, tables, goes_on, copies, copies_in_calls, threads])
+    main('calls', [worked_session, every_call, empty_reads, watermarks, truth, bursts, set_ups, ranges,
+                   no_calls, images, tables, goes_on, copies, copies_in_calls, threads])

@@ -193,6 +193,23 @@ FIELDS
     expect("a device", thymewax_device(8, 0) == 0x1100 && thymewax_device(0x7f, FLAGS) == 0xff0e);
 }
 
+/* Each watermark by its register: that of the set-up, one that is dropped, one that is taken. */
+static void marks(void)
+{
+    const uint32_t offsets[5] = {THYMEWAX_REG_CMD_WATERMARK, THYMEWAX_REG_CMDR_WATERMARK,
+                                 THYMEWAX_REG_SDO_WATERMARK, THYMEWAX_REG_SDI_WATERMARK,
+                                 THYMEWAX_REG_IBI_WATERMARK};
+    for (int i = 0; i < 5; i++) {
+        uint32_t above = capacities[i] + 1, most = 0x50000u | capacities[i];
+        expect("a first watermark", thymewax_read(&m, offsets[i]).value == watermarks[i]);
+        call("a watermark too high", thymewax_write(&m, offsets[i], above), THYMEWAX_LETTER_WRITE,
+             offsets[i], above, 0, THYMEWAX_WATERMARK_ABOVE_CAPACITY);
+        call("a watermark", thymewax_write(&m, offsets[i], most), THYMEWAX_LETTER_WRITE, offsets[i], most,
+             0, THYMEWAX_DONE);
+        expect("a watermark", thymewax_read(&m, offsets[i]).value == capacities[i]);
+    }
+}
+
 int main(void)
 {
     fields();
@@ -213,6 +230,7 @@ int main(void)
     m.output = m_output;
     m.output_words = 1;
     read_out("nothing read of CMDR", THYMEWAX_REG_CMDR_FIFO, 0);
+    marks();
 CALLS
     read_out("the end of CMDR", THYMEWAX_REG_CMDR_FIFO, 0x00000003);
     read_out("the end of SDI", THYMEWAX_REG_SDI_FIFO, 0xef000102);

@@ -56,8 +56,11 @@ class ImageWord(IntEnum):
     PART = 42
 
 
-# Levels, the mask, whether it is held, pending bits, the burst, the transfer but its part word.
-_MOVING = operator.itemgetter(*range(ImageWord.LEVELS, ImageWord.ID, _RING_WORDS), ImageWord.MASK, ImageWord.HELD,
+# Watermarks, levels, the mask, whether it is held, pending bits, the burst, the transfer but its
+# part word.
+_MOVING = operator.itemgetter(*range(ImageWord.MARKS, ImageWord.ID, _RING_WORDS),
+                              *range(ImageWord.LEVELS, ImageWord.ID, _RING_WORDS),
+                              ImageWord.MASK, ImageWord.HELD,
                               *range(ImageWord.CMDRPENDING, ImageWord.CMDRLATEST),
                               *range(ImageWord.STAGE, ImageWord.PART))
 
@@ -145,8 +148,8 @@ class Image(tuple[int, ...]):
 
     @property
     def moving(self) -> tuple[int, ...]:
-        """The words of levels, mask, reset, pending bits, burst and transfer: images of one bank
-        that agree in them show the same of all these, and of IRQ_SOURCE."""
+        """The words of watermarks, levels, mask, reset, pending bits, burst and transfer: images of
+        one bank that agree in them show the same of all these, and of IRQ_SOURCE."""
         words: tuple[int, ...] = _MOVING(self)
         return words
 

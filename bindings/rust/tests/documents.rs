@@ -49,6 +49,7 @@ fn numbers_have_the_names_of_the_header() {
         ENDING_NOT_ALLOWED SDO_NOT_EMPTY NOT_HEARD NOT_ACKNOWLEDGED OUT_OF_RANGE WRONG_PARITY
         NOT_ATTACHED NOT_WELL_FORMED STORE_LENGTH SET_UP_OUT_OF_RANGE WRONG_MARK WRONG_TABLE
         NO_SUCH_SECTION WRONG_RECORD BURST_HAS_NO_COMMANDS NOT_CARRIED
+        WATERMARK_ABOVE_CAPACITY
     ];
     assert_eq!(declared(), named);
     let names: Vec<String> = named.into_iter().map(|(name, _)| name).collect();

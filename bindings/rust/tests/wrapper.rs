@@ -214,6 +214,24 @@ fn an_empty_queue_shows_the_word_last_read() {
     shown(&mut model, [0; 3]);
 }
 
+/// A watermark moves its source at once; one above the capacity is dropped, and a reset leaves it.
+#[test]
+fn a_watermark_is_written() {
+    let mut model = released();
+    let source = |model: &mut Model| model.read(registers::IRQ_SOURCE).value & 1;
+    let mark = |model: &mut Model| model.read(registers::CMD_WATERMARK).done();
+    assert_eq!((mark(&mut model), source(&mut model)), (Ok(1), 1));
+    assert_eq!(model.write(registers::CMD_WATERMARK, 0).done(), Ok(0));
+    assert_eq!((mark(&mut model), source(&mut model)), (Ok(0), 0));
+    let value = 0x0005_0000 | SetUp::SESSION.cmd.capacity;
+    assert_eq!(model.write(registers::CMD_WATERMARK, value).done(), Ok(0));
+    assert_eq!((mark(&mut model), source(&mut model)), (Ok(4), 1));
+    let above = model.write(registers::CMD_WATERMARK, 5);
+    assert_eq!(above.number, Number::WATERMARK_ABOVE_CAPACITY);
+    assert_eq!(model.write(registers::ENABLE, 1).done(), Ok(0));
+    assert_eq!(mark(&mut model), Ok(4));
+}
+
 #[test]
 fn a_fresh_model_is_as_it_was_set_up() {
     let queue = |capacity, watermark| Queue {

@@ -19,7 +19,7 @@ VALUE_ORDER = ['name', 'description', 'value']
 OPTIONAL = {'dim', 'dimIncrement', 'readAction', 'modifiedWriteValues', 'enumeratedValues'}
 ACCESSES = ('read-only', 'write-only', 'read-write')
 # What no session tells apart is stated here: plain words, fields that are stored only or that only
-# a trigger uses, fields whose every bit no session sees at 1.
+# a trigger uses, fields whose every bit no session sees at 1, as those of a watermark.
 WORDS = ('DEVICE_ID', 'SCRATCH', 'CMD_FIFO_ROOM', 'CMDR_FIFO_LEVEL', 'SDO_FIFO_ROOM',
          'SDI_FIFO_LEVEL', 'IBI_FIFO_LEVEL')
 PLAIN_BITS = {
@@ -29,6 +29,8 @@ PLAIN_BITS = {
     'IBI_FIFO': {'IBI_FIFO_DA': (23, 17), 'IBI_FIFO_MDB': (15, 8)},
     'OPS': {'OPS_SPEED_GRADE': (6, 5), 'OPS_OFFLOAD_LENGTH': (4, 1)},
     **{name: {name: (31, 0)} for name in WORDS},
+    **{name + '_WATERMARK': {name + '_WATERMARK': (15, 0)}
+       for name in ('CMD', 'CMDR', 'SDO', 'SDI', 'IBI')},
     **{'OFFLOAD_CMD[%d]' % at: {'OFFLOAD_CMD': (31, 0)} for at in range(16)},
     **{'OFFLOAD_SDO[%d]' % at: {'OFFLOAD_SDO_BYTE_%d' % byte: (8 * byte + 7, 8 * byte)
                                 for byte in range(4)} for at in range(16)},

@@ -1,8 +1,11 @@
 """Every register: at reset, with each bit written, beside all others, and where there is none."""
 
+from tests.scripts.bank import SESSION_CAPACITIES, WATERMARKS
 from tests.tools.map.file import ONES, cleared, kept
 from tests.tools.map.steps import Script, Step, read, write
 from thymewax import Number
+
+CAPACITIES = dict(zip(WATERMARKS, SESSION_CAPACITIES))
 
 
 def read_at_reset(register):
@@ -28,9 +31,22 @@ def after(register, value):
     return value & kept(register) | stay
 
 
+def answered(register, value):
+    """The number of a write: a watermark is at most the capacity of its queue, other registers take
+    any value."""
+    above = value & kept(register) > CAPACITIES.get(register.offset, ONES)
+    return Number.WATERMARK_ABOVE_CAPACITY if above else Number.DONE
+
+
 def written(register, values):
-    return [step for value in values
-            for step in (write(register, value), read(register, after(register, value)))]
+    """Writes with a read after each. A write that is dropped leaves what the one before left."""
+    steps, shown = [], register.reset
+    for value in values:
+        number = answered(register, value)
+        if number == Number.DONE:
+            shown = after(register, value)
+        steps += [write(register, value, number), read(register, shown)]
+    return steps
 
 
 def ones_and_zeros(register):
@@ -43,12 +59,20 @@ def single_bits(register):
     return written(register, [1 << bit for bit in range(32)])
 
 
+def own_word(register, at):
+    """A word that no other register gets. The five watermarks get 0 to 4, which fit."""
+    word = 0x01020304 * (at + 1) & ONES
+    if register.offset in WATERMARKS:
+        word = word & ~kept(register) | WATERMARKS.index(register.offset)
+    return word
+
+
 def own_words(registers):
     """Each register keeps its own word while all others are written. IRQ_PENDING, which follows
     the mask, has sessions of its own, and DEV_CHAR."""
     keeping = [one for one in registers.values()
                if one.access == 'read-write' and one.name not in ('IRQ_PENDING', 'DEV_CHAR')]
-    words = {one.name: 0x01020304 * (at + 1) & ONES for at, one in enumerate(keeping)}
+    words = {one.name: own_word(one, at) for at, one in enumerate(keeping)}
     return [write(one, words[one.name]) for one in keeping] + \
         [read(one, after(one, words[one.name])) for one in keeping]
 

@@ -98,4 +98,19 @@ def cleared_by_queues(registers):
     return script.steps
 
 
-SESSIONS = (masks, acknowledged, cleared_by_names, cleared_by_queues)
+def moved_by_watermarks(registers):
+    """A watermark at the level turns its own source off, and back on by the first value."""
+    script = Script(registers)
+    all_interrupts(script)
+    for queue, level, source in (('CMD', 0, 'CMD_ALMOST_EMPTY'), ('CMDR', 4, 'CMDR_ALMOST_FULL'),
+                                 ('SDO', 0, 'SDO_ALMOST_EMPTY'), ('SDI', 4, 'SDI_ALMOST_FULL'),
+                                 ('IBI', 4, 'IBI_ALMOST_FULL')):
+        name = queue + '_WATERMARK'
+        script.put(name, **{name: level})
+        script.see_bits('IRQ_SOURCE', *(other for other in ALL if other != source))
+        script.steps.append(write(registers[name], registers[name].reset))
+        script.see_bits('IRQ_SOURCE', *ALL)
+    return script.steps
+
+
+SESSIONS = (masks, acknowledged, cleared_by_names, cleared_by_queues, moved_by_watermarks)

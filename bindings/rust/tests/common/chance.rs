@@ -64,10 +64,21 @@ pub fn device(lcg: &mut Lcg) -> Call {
     )
 }
 
+/// A watermark of a queue, one that fits more often than not. Bits 31:16 are any.
+fn watermark(lcg: &mut Lcg) -> Call {
+    let offset = registers::CMD_WATERMARK + 4 * lcg.below(5) as u16;
+    let words = match lcg.below(8) {
+        0 => lcg.below(0x1_0000),
+        1 => lcg.below(1026),
+        _ => lcg.below(5),
+    };
+    write(offset, lcg.word() << 16 | words)
+}
+
 /// A register that tells the bus how to work.
 pub fn setting(lcg: &mut Lcg) -> Call {
     let place = lcg.below(16) as usize;
-    match lcg.below(16) {
+    match lcg.below(18) {
         0..=5 => device(lcg),
         6 => write(registers::IBI_CONFIG, lcg.pick(&[3, 3, 3, 2, 1, 0])),
         // Length and mode: as long as the words that are written most.
@@ -79,6 +90,7 @@ pub fn setting(lcg: &mut Lcg) -> Call {
         10..=12 => write(registers::OFFLOAD_CMD[place % 5], offload_command(lcg)),
         13 => write(registers::OFFLOAD_CMD[place], offload_command(lcg)),
         14 => write(registers::OFFLOAD_SDO[place], lcg.word()),
+        15 | 16 => watermark(lcg),
         _ => write(
             lcg.pick(&[
                 registers::IRQ_MASK,

@@ -4,7 +4,7 @@ use reference::engine::{self, Bank, SetupNumbers};
 use thymewax::{registers, Answer, Call, Model, Number, Queue, Refusal, SetUp};
 
 /// The registers whose read changes nothing, but for the offload memories.
-const QUIET: [u16; 18] = [
+const QUIET: [u16; 23] = [
     registers::VERSION,
     registers::DEVICE_ID,
     registers::SCRATCH,
@@ -23,6 +23,11 @@ const QUIET: [u16; 18] = [
     registers::OPS,
     registers::IBI_CONFIG,
     registers::DEV_CHAR,
+    registers::CMD_WATERMARK,
+    registers::CMDR_WATERMARK,
+    registers::SDO_WATERMARK,
+    registers::SDI_WATERMARK,
+    registers::IBI_WATERMARK,
 ];
 
 #[derive(Clone)]

@@ -23,6 +23,12 @@ KINDS = {
 
 # How many words of a list are named.
 NAMED_WORDS = 8
+# The queues by the offsets of their watermarks, and what is read of IRQ_SOURCE where a level is
+# below its watermark, or above it.
+MARKED = {one.offset: one.name.removesuffix('_WATERMARK').lower()
+          for one in TABLE.of_word('watermark')}
+BELOW = {'cmd': Irq.CMD_ALMOST_EMPTY, 'sdo': Irq.SDO_ALMOST_EMPTY}
+ABOVE = {'cmdr': Irq.CMDR_ALMOST_FULL, 'sdi': Irq.SDI_ALMOST_FULL, 'ibi': Irq.IBI_ALMOST_FULL}
 
 
 def count(number: int, noun: str) -> str:
@@ -249,11 +255,34 @@ def removed(words: Sequence[Data]) -> str:
     return 'removed from SDO for it: %s' % ', '.join(named)
 
 
+def level_sources(image: Image) -> Irq:
+    """The sources that levels and watermarks set (`source.levels`)."""
+    found = Irq(0)
+    for queue, ring in image.rings._asdict().items():
+        if queue in BELOW and ring.level < ring.watermark:
+            found |= BELOW[queue]
+        elif queue in ABOVE and ring.level > ring.watermark:
+            found |= ABOVE[queue]
+    return found
+
+
+def turned(made: Made) -> str:
+    """The source that a watermark turned on or off: no word moved, so nothing else tells of it."""
+    if made.call.offset not in MARKED:
+        return ''
+    before, after = level_sources(made.before), level_sources(made.after)
+    if before == after:
+        return ''
+    return '%s turns %s' % (bits(before ^ after), 'on' if before ^ after in after else 'off')
+
+
 def told(made: Made, asked: str, about: Entry | None) -> str:
-    """What a call was, what it gave, the command that it was about, and of a finish the words that
-    left SDO unsent."""
-    if made.answer.refused or made.call.letter == 'W':
+    """What a call was, what it gave, the command that it was about, of a finish the words that left
+    SDO unsent, and of a watermark the source that it moved."""
+    if made.answer.refused:
         return asked
+    if made.call.letter == 'W':
+        return '; '.join(filter(None, [asked, turned(made)]))
     whose = about and '%s (call %d)' % (command(about.words), about.written)
     gone = removed(about.removed) if made.call.letter == 'F' and about and about.removed else ''
     more = '; '.join(filter(None, [given(made), whose, gone]))
@@ -285,6 +314,13 @@ def no_room(call: Call, before: Image) -> str:
     if before.burst_place is not None or call.letter not in queues:
         return 'the output is too short for the burst'
     return ', '.join(fill(name, before) for name in queues[call.letter])
+
+
+def too_high(call: Call, before: Image) -> str:
+    queue = MARKED[call.offset]
+    ring = getattr(before.rings, queue)
+    return '%s has a capacity of %s, its watermark stays %d' % (
+        queue.upper(), count(ring.capacity, 'word'), ring.watermark)
 
 
 def mode(image: Image) -> str:
@@ -325,6 +361,7 @@ WHY: dict[int, Callable[[Call, Image], str]] = {
     # Its flag may have been set since.
     Number.NOT_ATTACHED: lambda call, before: 'it was not when the transfer opened',
     Number.NOT_CARRIED: lambda call, before: not_carried(before),
+    Number.WATERMARK_ABOVE_CAPACITY: too_high,
 }
 
 

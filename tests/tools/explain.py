@@ -20,6 +20,7 @@ from tests.shared.packing import pack
 from tests.shared.trial import equal, generated, main, run, tool
 from thymewax import MEANINGS, Model, Number, session
 import inputs
+import wording
 from ledger import Ledger
 
 SEEDS = (1, 2, 3)
@@ -221,6 +222,28 @@ EMPTY_TOLD = [
      '(call 25)'),
     ('R 0d8', 'read CMDR_FIFO', old_word('CMDR_FIFO', 28)),
 ]
+# Watermarks: sources that turn, those that do not, and values that are dropped.
+MARKS_TOLD = [
+    ('R 200', 'read CMD_WATERMARK: 1 word'),
+    ('W 200 0', 'write CMD_WATERMARK: 0 words; CMD_ALMOST_EMPTY turns off'),
+    ('R 088', 'read IRQ_SOURCE: SDO_ALMOST_EMPTY'),
+    ('W 200 5', 'write CMD_WATERMARK: 5 words',
+     dropped(Number.WATERMARK_ABOVE_CAPACITY, 'CMD has a capacity of 4 words, its watermark stays 0')),
+    ('W 200 50004', 'write CMD_WATERMARK: 4 words; CMD_ALMOST_EMPTY turns on'),
+    ('W 200 3', 'write CMD_WATERMARK: 3 words'),
+    ('W 210 0', 'write IBI_WATERMARK: 0 words'),
+    ('W 40 0', 'write ENABLE: release'),
+    ('W 180 110e', 'write DEV_CHAR: device 08, attached, may interrupt, sends a byte'),
+    ('W 140 3', 'write IBI_CONFIG: IBI_CONFIG_ENABLE, IBI_CONFIG_LISTEN'),
+    ('I 8 5a', 'interrupt request of 08 with 5a: interrupt from 08, byte 5a, sync 0'),
+    ('W 210 1', 'write IBI_WATERMARK: 1 word; IBI_ALMOST_FULL turns off'),
+    ('W 210 ffff', 'write IBI_WATERMARK: 65535 words',
+     dropped(Number.WATERMARK_ABOVE_CAPACITY, 'IBI has a capacity of 4 words, its watermark stays 1')),
+    ('W 210 0', 'write IBI_WATERMARK: 0 words; IBI_ALMOST_FULL turns on'),
+    ('R 088', 'read IRQ_SOURCE: CMD_ALMOST_EMPTY, SDO_ALMOST_EMPTY, IBI_ALMOST_FULL, IBI_PENDING'),
+    ('W 202 0', 'write offset 0202: 00000000', dropped(Number.NO_REGISTER, 'not a multiple of 4')),
+    ('W 214 0', 'write offset 0214: 00000000', dropped(Number.NO_REGISTER, 'not in the map')),
+]
 # What the reads of this table show.
 EMPTY_READS = '0 0 12000000 12000000 105a00 100 12000000 105a00 100 100 0 0 0 0'.split()
 # The end of the first log.
@@ -258,7 +281,7 @@ def words(_):
     """The words of each line, and of the end."""
     for table, options, end in ((TOLD, [], SUMMARY), (BURST_TOLD, ['--bursts'], NO_COMMANDS),
                                 (CAUSES_TOLD, ['--bursts'], PART), (FAILED_TOLD, [], FAILED),
-                                (EMPTY_TOLD, [], EMPTIED)):
+                                (EMPTY_TOLD, [], EMPTIED), (MARKS_TOLD, [], NO_COMMANDS)):
         log = explained(*options, data=script_of(table))
         lines = iter(log.split('\n'))
         for line, *told in table:
@@ -332,6 +355,25 @@ def ledgers(_):
     equal('ledgers', 'parts of commands', parts > 0, True)
     equal('ledgers', 'empty queues, with a word read and without', len(again), 6)
     equal('ledgers', 'words removed', min(removed[count] for count in range(5)) > 0, True)
+
+
+def sources(_):
+    """The source that a watermark is said to turn is the one that the register shows to have
+    turned; and any other write is said to turn none."""
+    turns = Counter()
+    for seed in SEEDS:
+        model = Model.set_up()
+        before = model.source()
+        for made in inputs.run(model, [session.calls(generated(seed, CALLS))]):
+            moved, before = model.source() ^ before, model.source()
+            if made.call.letter != 'W' or made.answer.refused:
+                continue
+            text = ''
+            if made.call.offset in wording.MARKED and moved:
+                text = '%s turns %s' % (wording.bits(moved), 'on' if moved in before else 'off')
+            equal('sources', made.number, wording.turned(made), text)
+            turns[text] += 1
+    equal('sources', 'each turned on and off', len(turns), 2 * 5 + 1)
 
 
 def differences(_):
@@ -411,5 +453,5 @@ def suspects(_):
 if __name__ == '__main__':
     if len(sys.argv) > 2:
         sys.exit(__doc__)
-    main('explain', [words, logs, ledgers, differences, empty_reads, suspects],
+    main('explain', [words, logs, ledgers, sources, differences, empty_reads, suspects],
          sys.argv[1] if len(sys.argv) == 2 else None)

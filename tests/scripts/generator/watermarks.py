@@ -77,7 +77,7 @@ class Watermarks(Bursts):
         self.script.read(offset)
 
     def switch(self, queue):
-        """The level itself, the marks next to it and back; the sources are read before and after."""
+        """The level itself, the marks next to it and back; sources are read before and after."""
         level, size = self.guess.level(queue), self.guess.capacities[queue]
         self.script.read(Register.IRQ_SOURCE)
         for mark in (level, level + 1, level, level - 1, level):

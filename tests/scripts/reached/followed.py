@@ -24,7 +24,7 @@ class Followed(Bank):
 
     `marks` are the watermarks, `first_marks` those of the set-up, which queues in `as_set_up` still
     have; those in `left` were refused another since, those in `over_reset` have kept theirs over a
-    reset. `shown` are the sources as last read, while only the watermark of `marked` was written."""
+    reset. `shown` are the sources as last read, while only the mark of `marked` was written."""
 
     def __init__(self, counts):
         super().__init__()

@@ -116,8 +116,8 @@ SET_UP_EMPTY_READS = (
     + ['SDI' + AFTER_A_BURST]
 )
 
-# Watermarks that are written (`watermark.keeps`): each value that counts in each phase, what is read
-# then, and the sources, as they are read before and after a write and nothing else.
+# Watermarks that are written (`watermark.keeps`): each value that counts in each phase, what is
+# read then, and the sources, as they are read before and after a write and nothing else.
 NONE, MOST, ABOVE, WITH_HIGH_BITS = '0', 'of the capacity', 'one above refused', 'with bits 31:16'
 READ_AS_SET_UP, READ_AS_WRITTEN = ' watermark read as set up', ' watermark read as written'
 LEFT, LOW_BYTE_FITS = ' watermark read, one refused since', ' watermark refused, its low byte fits'
@@ -220,8 +220,8 @@ SET_UP_SITUATIONS = (
     + ['set-up during a transfer', 'receipt number above 256', 'interrupt number above 256']
     + SET_UP_EMPTY_READS + watermarks((*PHASES, BURST_OPEN))
     + ['%s of %d, watermark %s' % (queue, size, value)
-       for queue, least in zip(QUEUES, LEAST_CAPACITIES) for size in TEST_CAPACITIES if size >= least
-       for value in (MOST, ABOVE)]
+       for queue, least in zip(QUEUES, LEAST_CAPACITIES) for size in TEST_CAPACITIES
+       if size >= least for value in (MOST, ABOVE)]
 )
 
 LENGTHS = range(CARRIED_LENGTH + 1)

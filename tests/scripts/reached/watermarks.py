@@ -1,4 +1,4 @@
-"""Follows the watermarks that a script writes (`watermark.keeps`), and the sources that they move."""
+"""Follows the watermarks that a script writes (`watermark.keeps`), and the sources that move."""
 
 from tests.scripts.bank import QUEUES, TAKING_QUEUES, WATERMARKS
 from tests.scripts.reached.followed import DONE, Followed

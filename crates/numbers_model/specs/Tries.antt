@@ -70,8 +70,8 @@ abbrev opened : ℕ → List Call
 opened w = offload w ++ (Trigger ∷ [])
 
 -- a read in a burst that is open, whose word the last call is not lent
-abbrev lacking : Call → Try
-lacking c = after (opened 0x111) c
+abbrev withoutOutput : Call → Try
+withoutOutput c = after (opened 0x111) c
 
 -- four words in a queue, which are as many as it holds; four receipts in CMDR
 abbrev four : Call → List Call
@@ -90,28 +90,28 @@ tries (Write o v) =
     fresh (Write 8 0) ∷ illFormed (Write 8 0) ∷ wrongLength (Write 8 0) ∷ fresh (Write 0x00c 0) ∷ after (opened 0x110) (Write 0x100 0)
     ∷ fresh (Write 0x200 5) ∷ fresh (Write 0 0) ∷ fresh (Write 0x0d4 0) ∷ after (four (Write 0x0d4 0)) (Write 0x0d4 0) ∷ []
 tries Start =
-    after (Write 0x0d4 0x110 ∷ []) Start ∷ illFormed Start ∷ wrongLength Start ∷ lacking Start ∷ fresh Start
+    after (Write 0x0d4 0x110 ∷ []) Start ∷ illFormed Start ∷ wrongLength Start ∷ withoutOutput Start ∷ fresh Start
     ∷ after writing Start ∷ after (Write 0x100 1 ∷ []) Start ∷ after [] Start ∷ after (Write 0x0dc 0 ∷ Write 0x0d4 0x400000 ∷ Write 0x0d4 7 ∷ []) Start ∷ []
 tries Send =
-    after (Write 0x0dc 0 ∷ writing) Send ∷ illFormed Send ∷ wrongLength Send ∷ lacking Send ∷ fresh Send ∷ after [] Send
+    after (Write 0x0dc 0 ∷ writing) Send ∷ illFormed Send ∷ wrongLength Send ∷ withoutOutput Send ∷ fresh Send ∷ after [] Send
     ∷ after absent Send ∷ after reading Send ∷ after (started 0x010) Send ∷ after writing Send ∷ []
 tries (Receive b) =
-    after reading (Receive 1) ∷ illFormed (Receive 1) ∷ wrongLength (Receive 1) ∷ lacking (Receive 1) ∷ fresh (Receive 1) ∷ after [] (Receive 1)
+    after reading (Receive 1) ∷ illFormed (Receive 1) ∷ wrongLength (Receive 1) ∷ withoutOutput (Receive 1) ∷ fresh (Receive 1) ∷ after [] (Receive 1)
     ∷ after absent (Receive 1) ∷ after writing (Receive 1) ∷ after (started 0x011) (Receive 1) ∷ after (started 0x1411 ++ received 19) (Receive 1) ∷ []
 tries (Finish code) =
-    after (started 0x010) (Finish 0) ∷ illFormed (Finish 0) ∷ wrongLength (Finish 0) ∷ fresh (Finish 16) ∷ lacking (Finish 0) ∷ fresh (Finish 0)
+    after (started 0x010) (Finish 0) ∷ illFormed (Finish 0) ∷ wrongLength (Finish 0) ∷ fresh (Finish 16) ∷ withoutOutput (Finish 0) ∷ fresh (Finish 0)
     ∷ after [] (Finish 0) ∷ after writing (Finish 0) ∷ after (receipts ++ started 0x010) (Finish 0) ∷ []
 tries (Interrupt a b) =
-    after (Write 0x140 3 ∷ []) (Interrupt 8 0) ∷ illFormed (Interrupt 8 0) ∷ wrongLength (Interrupt 8 0) ∷ fresh (Interrupt 128 0) ∷ lacking (Interrupt 8 0) ∷ fresh (Interrupt 8 0)
+    after (Write 0x140 3 ∷ []) (Interrupt 8 0) ∷ illFormed (Interrupt 8 0) ∷ wrongLength (Interrupt 8 0) ∷ fresh (Interrupt 128 0) ∷ withoutOutput (Interrupt 8 0) ∷ fresh (Interrupt 8 0)
     ∷ after writing (Interrupt 8 0) ∷ after [] (Interrupt 8 0) ∷ after (Write 0x140 3 ∷ []) (Interrupt 9 0) ∷ after (Write 0x140 3 ∷ four (Interrupt 8 0)) (Interrupt 8 0) ∷ []
 tries (Request v w) =
-    after entdaa (Request 1 2) ∷ illFormed (Request 1 2) ∷ wrongLength (Request 1 2) ∷ lacking (Request 1 2) ∷ fresh (Request 1 2) ∷ after [] (Request 1 2)
+    after entdaa (Request 1 2) ∷ illFormed (Request 1 2) ∷ wrongLength (Request 1 2) ∷ withoutOutput (Request 1 2) ∷ fresh (Request 1 2) ∷ after [] (Request 1 2)
     ∷ after writing (Request 1 2) ∷ after (started 0x1011 ++ (received 16 ++ (Finish 0 ∷ entdaa))) (Request 1 2) ∷ []
 tries Take =
-    after (requested ++ (Write 0x0dc 0x10000000 ∷ [])) Take ∷ after (requested ++ (Write 0x0dc 0x11000000 ∷ [])) Take ∷ illFormed Take ∷ wrongLength Take ∷ lacking Take ∷ fresh Take
+    after (requested ++ (Write 0x0dc 0x10000000 ∷ [])) Take ∷ after (requested ++ (Write 0x0dc 0x11000000 ∷ [])) Take ∷ illFormed Take ∷ wrongLength Take ∷ withoutOutput Take ∷ fresh Take
     ∷ after [] Take ∷ after entdaa Take ∷ after requested Take ∷ []
 tries Trigger =
-    after (offload 0x110) Trigger ∷ illFormed Trigger ∷ wrongLength Trigger ∷ lacking Trigger ∷ fresh Trigger
+    after (offload 0x110) Trigger ∷ illFormed Trigger ∷ wrongLength Trigger ∷ withoutOutput Trigger ∷ fresh Trigger
     ∷ after writing Trigger ∷ after [] Trigger ∷ after (Write 0x100 1 ∷ []) Trigger ∷ after (offload 0x400000) Trigger ∷ after (offload 0x111) Trigger ∷ []
 
 -- each try is of that call, whatever its arguments, and they end with the numbers of the table, one after another

@@ -1,10 +1,10 @@
--- `read_rows::flags_at` meets its contract.
+-- `shown::flags_at` meets its contract.
 use mathlib.Core.Path.{sym}
 use lib.ListN.{List·getD-eq-default}
 use denote.Ref.{now}
 use borrow.Author.Needs.{needs}
-use Rattle.read_rows.proofs.flags_at.Statement.{statement}
-use Rattle.read_rows.proofs.flags_at.Tie as tie
+use Rattle.shown.proofs.flags_at.Statement.{statement}
+use Rattle.shown.proofs.flags_at.Tie as tie
 
 shared-slice-read-result : tie.Need-shared-slice-read-result
 shared-slice-read-result c = search needs

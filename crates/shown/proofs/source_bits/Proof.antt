@@ -1,7 +1,7 @@
--- `read_rows::source_bits` meets its contract.
+-- `shown::source_bits` meets its contract.
 use borrow.Author.Needs.{needs}
-use Rattle.read_rows.proofs.source_bits.Statement.{statement}
-use Rattle.read_rows.proofs.source_bits.Tie as tie
+use Rattle.shown.proofs.source_bits.Statement.{statement}
+use Rattle.shown.proofs.source_bits.Tie as tie
 
 byte-low-bit-requires : tie.Need-byte-low-bit-requires
 byte-low-bit-requires c κs = search needs

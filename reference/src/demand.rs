@@ -1,5 +1,6 @@
 //! Checker of demand 3: judges any program's answers to a session script or to one
-//! with the lines of test mode. Beside the demand it judges the values of refusals.
+//! with the lines of test mode. The demand is read as 02 §13 extends it, to data words.
+//! Beside it the values of refusals are judged.
 //!
 //! It reads the script and the answers and nothing else. Of the engine it uses the
 //! types of a call, an answer and the set-up numbers, which the line parser gives; it
@@ -11,6 +12,8 @@ mod receipt;
 mod refusal;
 mod register;
 mod room;
+mod sdi;
+mod sdo;
 mod stretch;
 mod transfer;
 mod waiting;

@@ -14,10 +14,13 @@ pub enum Clause {
     RestWaits,
     /// No command starts before the finish of the one before it.
     OneOpen,
+    /// No command is open while a burst is, and only one burst at a time (02 §3).
+    ApartFromBursts,
     /// An event succeeds only for a command whose words ask for it: bytes sent for a write,
     /// received for a read, addresses for ENTDAA.
     EventsOfItsKind,
-    /// A finish makes a receipt, which it shows, and only for an open command.
+    /// A finish makes a receipt, which it shows, and only for an open command. A burst's
+    /// finish shows none (02 §3).
     OneReceiptEach,
     /// The sync counts the receipts since the release, in eight bits.
     ReceiptSync,
@@ -27,6 +30,8 @@ pub enum Clause {
     CommandedLength,
     /// The error is the code that the finish got.
     ReceiptError,
+    /// Bits 31:24 belong to no field of a receipt (01, 'Commands and receipts').
+    ReceiptTop,
     /// Reads of CMDR give the receipts as they were made, one after the other.
     ReceiptsRead,
     /// CMDR holds all receipts that no read has given, and no more.
@@ -36,6 +41,19 @@ pub enum Clause {
     TakenAfterRoom,
     /// A driver that writes all its words in that way loses none.
     NoneMissing,
+    /// The bytes sent for a command begin with a new word of SDO, the oldest there, and with
+    /// another for each four (02 §13).
+    DataSent,
+    /// An address take has SDO's oldest word, and is answered by its parity (02 §13).
+    AddressesTaken,
+    /// SDO holds all its other words, save those that failed writes removed, and no more (02
+    /// §13).
+    DataWaits,
+    /// Reads of SDI give the payloads of reads, padded to whole words, and the words of
+    /// address requests as they came (02 §13).
+    DataRead,
+    /// SDI holds all of these that no read has given, and no more (02 §13).
+    DataQueued,
     /// An empty CMDR, SDI or IBI shows the word that was read from it last since the release,
     /// 0 before the first (02 §5).
     EmptyReads,
@@ -43,21 +61,28 @@ pub enum Clause {
     RefusalsBare,
 }
 
-/// In the order of the demand's words; refusals last.
-pub const ALL_CLAUSES: [Clause; 15] = [
+/// In the order of the demand's words; data behind commands and receipts, refusals last.
+pub const ALL_CLAUSES: [Clause; 22] = [
     Clause::StartedInOrder,
     Clause::RestWaits,
     Clause::OneOpen,
+    Clause::ApartFromBursts,
     Clause::EventsOfItsKind,
     Clause::OneReceiptEach,
     Clause::ReceiptSync,
     Clause::ReceiptLength,
     Clause::CommandedLength,
     Clause::ReceiptError,
+    Clause::ReceiptTop,
     Clause::ReceiptsRead,
     Clause::ReceiptsQueued,
     Clause::TakenAfterRoom,
     Clause::NoneMissing,
+    Clause::DataSent,
+    Clause::AddressesTaken,
+    Clause::DataWaits,
+    Clause::DataRead,
+    Clause::DataQueued,
     Clause::EmptyReads,
     Clause::RefusalsBare,
 ];
@@ -68,16 +93,23 @@ impl Clause {
             Clause::StartedInOrder => "commands started in order, each once",
             Clause::RestWaits => "commands not started still wait",
             Clause::OneOpen => "started commands finished, save the last while open",
+            Clause::ApartFromBursts => "commands and bursts open one at a time",
             Clause::EventsOfItsKind => "events of the open command's kind",
             Clause::OneReceiptEach => "one receipt for each finished command",
             Clause::ReceiptSync => "receipt sync",
             Clause::ReceiptLength => "receipt length is the bytes moved",
             Clause::CommandedLength => "receipt length at most the commanded length",
             Clause::ReceiptError => "receipt error is the finish's code",
+            Clause::ReceiptTop => "receipt bits 31:24 are 0",
             Clause::ReceiptsRead => "receipts read in order",
             Clause::ReceiptsQueued => "receipts not read still queued",
             Clause::TakenAfterRoom => "command word after a room read above 0 taken",
             Clause::NoneMissing => "no command missing where each is written so",
+            Clause::DataSent => "data words sent in order, each once",
+            Clause::AddressesTaken => "address words taken in order, each once",
+            Clause::DataWaits => "other data words still wait, save those removed",
+            Clause::DataRead => "words received read in order",
+            Clause::DataQueued => "words received and not read still queued",
             Clause::EmptyReads => "an empty read shows the word read last",
             Clause::RefusalsBare => "other refusals have value 0",
         }

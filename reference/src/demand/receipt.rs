@@ -5,11 +5,16 @@ use super::transfer::Transfer;
 use crate::number::EMPTY;
 use std::collections::VecDeque;
 
-/// A receipt's word (01, 'Commands and receipts'). Bits 31:24 are not part of demand 3.
+/// A receipt's word (01, 'Commands and receipts').
 #[derive(Clone, Copy, Debug, PartialEq, Eq)]
 pub struct Receipt(pub u32);
 
 impl Receipt {
+    /// Bits 31:24.
+    fn top(self) -> u32 {
+        self.0 >> 24
+    }
+
     fn error(self) -> u32 {
         self.0 >> 20 & 0xf
     }
@@ -59,6 +64,7 @@ impl Receipts {
             self.judge_sync(receipt, findings);
             judge_length(receipt, &transfer, findings);
             judge_error(receipt, code, findings);
+            judge_top(receipt, findings);
         }
         self.made += 1;
         self.queue(receipt, findings);
@@ -171,6 +177,20 @@ fn judge_error(receipt: Receipt, code: u8, findings: &mut Findings) {
     });
 }
 
+fn judge_top(receipt: Receipt, findings: &mut Findings) {
+    let top = receipt.top();
+    findings.judge(Clause::ReceiptTop, top == 0, || {
+        format!("expected bits 31:24 clear, saw {top:02x}")
+    });
+}
+
+/// A finish answered `DONE` in a burst, whose transfers have no receipt (02 §3).
+pub fn judge_burst_finish(value: u32, findings: &mut Findings) {
+    findings.judge(Clause::OneReceiptEach, value == 0, || {
+        format!("expected value 0, a burst has no receipts, saw {value:08x}")
+    });
+}
+
 #[cfg(test)]
 mod tests {
     use super::*;
@@ -178,6 +198,7 @@ mod tests {
     #[test]
     fn fields_of_a_receipt() {
         let receipt = Receipt(0xff6a_bc05);
+        assert_eq!(receipt.top(), 0xff);
         assert_eq!(receipt.error(), 6);
         assert_eq!(receipt.length(), 0xabc);
         assert_eq!(receipt.sync(), 5);

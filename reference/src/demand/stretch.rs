@@ -5,14 +5,16 @@
 
 use super::clause::Findings;
 use super::command::Kind;
-use super::receipt::{Receipt, Receipts};
+use super::receipt::{judge_burst_finish, Receipt, Receipts};
 use super::refusal::{judge_value, LastReads};
-use super::register::{CMD, CMDR, CMDR_LEVEL, CMD_ROOM, ENABLE, FIFO_STATUS, OPS};
+use super::register::*;
 use super::room::RoomReads;
-use super::transfer::Transfers;
+use super::sdi::SdiWords;
+use super::sdo::SdoWords;
+use super::transfer::{Owner, Transfers};
 use super::waiting::Commands;
 use crate::engine::{Answer, Call, SetupNumbers, SESSION_NUMBERS};
-use crate::number::{DONE, EMPTY, NO_COMMAND, SDO_NOT_EMPTY};
+use crate::number::{DONE, EMPTY, NO_COMMAND, SDO_EMPTY, SDO_NOT_EMPTY, WRONG_PARITY};
 
 /// What is counted since the release.
 #[derive(Debug)]
@@ -21,6 +23,8 @@ struct Stretch {
     commands: Commands,
     transfers: Transfers,
     receipts: Receipts,
+    sdo: SdoWords,
+    sdi: SdiWords,
     last_reads: LastReads,
 }
 
@@ -32,21 +36,29 @@ impl Stretch {
             commands: Commands::new(capacities[0] as usize),
             transfers: Transfers::default(),
             receipts: Receipts::new(capacities[1] as usize),
+            sdo: SdoWords::new(capacities[2] as usize),
+            sdi: SdiWords::new(capacities[3] as usize),
             last_reads: LastReads::default(),
         }
     }
 
     fn judge_call(&mut self, call: &Call, answer: Answer, findings: &mut Findings) {
+        // For which transfer an event is, and all that follows from it, is unknown.
+        if self.transfers.are_mixed_up() {
+            return;
+        }
         match *call {
             Call::Write { offset: CMD, value } => self.command_word(value, answer, findings),
+            Call::Write { offset: SDO, value } => self.data_word(value, answer, findings),
             Call::Write { .. } => {}
             Call::Read { offset } => self.read(offset, answer, findings),
             Call::Start => self.start(answer, findings),
-            Call::Send => self.event(Kind::Write, 1, answer, findings),
-            Call::Receive { .. } => self.event(Kind::Read, 1, answer, findings),
-            Call::AddressRequest { .. } | Call::AddressTake => {
-                self.event(Kind::Entdaa, 0, answer, findings);
+            Call::Send => self.send(answer, findings),
+            Call::Receive { byte } => self.receive(byte, answer, findings),
+            Call::AddressRequest { first, second } => {
+                self.address_request(first, second, answer, findings);
             }
+            Call::AddressTake => self.address_take(answer, findings),
             Call::Finish { code } => self.finish(code, answer, findings),
             Call::InterruptRequest { .. } | Call::Trigger => {
                 self.transfers.refusal(answer, findings);
@@ -61,6 +73,12 @@ impl Stretch {
         }
     }
 
+    fn data_word(&mut self, word: u32, answer: Answer, findings: &mut Findings) {
+        if answer.number == DONE {
+            self.sdo.word_taken(word, findings);
+        }
+    }
+
     fn read(&mut self, offset: u16, answer: Answer, findings: &mut Findings) {
         let value = answer.value;
         match (offset, answer.number) {
@@ -71,7 +89,14 @@ impl Stretch {
             (CMDR, DONE) => self.receipts.read(Receipt(value), findings),
             (CMDR, EMPTY) => self.receipts.read_refused(findings),
             (CMDR_LEVEL, DONE) => self.receipts.level(value, findings),
-            (FIFO_STATUS, DONE) => self.receipts.status(value, findings),
+            (SDO_ROOM, DONE) => self.sdo.room(value, findings),
+            (SDI, DONE) => self.sdi.read(value, findings),
+            (SDI, EMPTY) => self.sdi.read_refused(findings),
+            (SDI_LEVEL, DONE) => self.sdi.level(value, findings),
+            (FIFO_STATUS, DONE) => {
+                self.receipts.status(value, findings);
+                self.sdi.status(value, findings);
+            }
             (OPS, DONE) => self.transfers.ops(value, findings),
             _ => {}
         }
@@ -82,26 +107,82 @@ impl Stretch {
             DONE => {
                 let command = self.commands.start(answer.value, findings);
                 self.transfers.start(command, findings);
+                if command.is_some_and(|command| command.kind() == Kind::Entdaa) {
+                    self.sdo.entdaa_started(findings);
+                }
             }
             NO_COMMAND => self.commands.refused_without_command(findings),
-            SDO_NOT_EMPTY => self.commands.refused_for_sdo(findings),
+            SDO_NOT_EMPTY => {
+                self.commands.refused_for_sdo(findings);
+                self.sdo.refused_as_not_empty(findings);
+            }
             _ => self.transfers.refusal(answer, findings),
         }
     }
 
-    fn event(&mut self, kind: Kind, bytes: u64, answer: Answer, findings: &mut Findings) {
-        if answer.number == DONE {
-            self.transfers.event(kind, bytes, findings);
-        } else {
+    fn send(&mut self, answer: Answer, findings: &mut Findings) {
+        match answer.number {
+            DONE => match self.transfers.event(Kind::Write, 1, answer, findings) {
+                Owner::Command => self.sdo.byte_sent(answer.value, findings),
+                Owner::Burst => {}
+                Owner::None => self.sdo.lose_track(),
+            },
+            SDO_EMPTY => self.sdo.refused_as_empty(findings),
+            _ => self.transfers.refusal(answer, findings),
+        }
+    }
+
+    fn receive(&mut self, byte: u8, answer: Answer, findings: &mut Findings) {
+        if answer.number != DONE {
             self.transfers.refusal(answer, findings);
+            return;
+        }
+        match self.transfers.event(Kind::Read, 1, answer, findings) {
+            Owner::Command => self.sdi.byte_received(byte, findings),
+            Owner::Burst => {}
+            Owner::None => self.sdi.lose_track(),
+        }
+    }
+
+    fn address_request(
+        &mut self,
+        first: u32,
+        second: u32,
+        answer: Answer,
+        findings: &mut Findings,
+    ) {
+        if answer.number != DONE {
+            self.transfers.refusal(answer, findings);
+            return;
+        }
+        match self.transfers.event(Kind::Entdaa, 0, answer, findings) {
+            Owner::Command => self.sdi.address_request(first, second, findings),
+            Owner::Burst | Owner::None => self.sdi.lose_track(),
+        }
+    }
+
+    /// A word of wrong parity is taken too.
+    fn address_take(&mut self, answer: Answer, findings: &mut Findings) {
+        match answer.number {
+            DONE | WRONG_PARITY => match self.transfers.event(Kind::Entdaa, 0, answer, findings) {
+                Owner::Command => self.sdo.address_taken(answer, findings),
+                Owner::Burst | Owner::None => self.sdo.lose_track(),
+            },
+            SDO_EMPTY => self.sdo.refused_as_empty(findings),
+            _ => self.transfers.refusal(answer, findings),
         }
     }
 
     fn finish(&mut self, code: u8, answer: Answer, findings: &mut Findings) {
         if answer.number != DONE {
             self.transfers.refusal(answer, findings);
-        } else if !self.transfers.finish_in_burst() {
+        } else if self.transfers.finish_in_burst() {
+            judge_burst_finish(answer.value, findings);
+        } else {
             let transfer = self.transfers.finish();
+            let command = transfer.as_ref().and_then(|transfer| transfer.command);
+            self.sdo.finish(code, command);
+            self.sdi.finish(findings);
             self.receipts
                 .finish(code, Receipt(answer.value), transfer, findings);
         }
@@ -154,7 +235,9 @@ impl Count {
             }
             Call::Trigger if answer.number == DONE => {
                 if let Some(stretch) = &mut self.stretch {
-                    stretch.transfers.trigger(self.offload_length);
+                    stretch
+                        .transfers
+                        .trigger(self.offload_length, &mut self.findings);
                 }
             }
             // In reset nothing else counts.

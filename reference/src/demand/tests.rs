@@ -1,6 +1,10 @@
 //! Tests of the checker: a correct session is kept; of answers with one fault
 //! exactly the clauses that the fault breaks are reported, at its line.
 
+mod bursts;
+mod data;
+mod random;
+mod refusals;
 mod session;
 
 use super::clause::Clause;
@@ -30,10 +34,15 @@ fn a_correct_session_is_kept() {
     assert!(session.count("F", DONE) > 300);
     assert!(session.count("A", WRONG_PARITY) > 40);
     assert!(session.count("W 00d4", DROPPED_FULL) > 40);
-    assert!(session.count("F", NO_ROOM) == 20);
+    assert!(session.count("F", NO_ROOM) == 21);
     assert!(session.count("S", SDO_NOT_EMPTY) == 1);
     assert!(session.count("S", NO_COMMAND) > 40);
     assert!(session.count("T", NOT_THIS_KIND) > 40);
+    assert!(session.count("T", SDO_EMPTY) == 6);
+    assert!(session.count("A", SDO_EMPTY) == 2);
+    assert!(session.count("W 00dc", DROPPED_FULL) == 1);
+    assert!(session.count("X", NO_ROOM) == 1);
+    assert!(session.count("D", NO_ROOM) == 1);
     for name in ["a read", "a write", "a CCC", "ENTDAA"] {
         let reset = session.mark(&format!("reset in {name}"));
         assert_eq!(session.rows[reset + 1].line, RESET);
@@ -136,7 +145,7 @@ fn a_start_without_command_although_one_waits() {
 #[test]
 fn a_start_refused_for_sdo_although_no_entdaa_waits() {
     let mut session = long_session();
-    let start = session.find(transfer(&session, "direct CCC", 7), "S", DONE);
+    let start = session.find(transfer(&session, "data in advance", 1), "S", DONE);
     session.insert(start, "S", 0, SDO_NOT_EMPTY);
     assert_broken(&session, &[(Clause::RestWaits, start)]);
 }
@@ -303,6 +312,21 @@ fn events_with_no_command_open() {
     }
 }
 
+/// `WRONG_PARITY` says that a word was taken, which only an ENTDAA does.
+#[test]
+fn a_wrong_parity_with_no_entdaa_open() {
+    for name in ["private write", "private read"] {
+        let mut session = long_session();
+        let row = session.find(transfer(&session, name, 3), "A", NOT_THIS_KIND);
+        session.set(row, 8, WRONG_PARITY);
+        assert_broken(&session, &[(Clause::EventsOfItsKind, row)]);
+    }
+    let mut session = long_session();
+    let mark = transfer(&session, "private read", 3);
+    session.insert(mark, "A", 8, WRONG_PARITY);
+    assert_broken(&session, &[(Clause::EventsOfItsKind, mark)]);
+}
+
 // Receipts.
 
 #[test]
@@ -390,7 +414,12 @@ fn a_receipt_without_the_bytes_moved() {
     let receive = session.find(mark, "X", DONE);
     let finish = session.find(mark, "F", DONE);
     session.set(receive, 0, NO_ROOM);
-    assert_broken(&session, &[(Clause::ReceiptLength, finish)]);
+    // It is in SDI too.
+    let word = session.find(finish, "R 00e0", DONE);
+    assert_broken(
+        &session,
+        &[(Clause::ReceiptLength, finish), (Clause::DataRead, word)],
+    );
 }
 
 #[test]
@@ -399,7 +428,8 @@ fn a_length_above_the_commanded_length() {
     let mark = transfer(&session, "private write", 5);
     let send = session.find(mark, "T", LENGTH_REACHED);
     let finish = session.find(mark, "F", DONE);
-    session.set(send, 0, DONE);
+    // The next byte of the word.
+    session.set(send, session.written(mark + 2) >> 16 & 0xff, DONE);
     session.set_receipt(finish, session.value(finish) + 0x100);
     assert_broken(&session, &[(Clause::CommandedLength, finish)]);
 }
@@ -418,6 +448,16 @@ fn a_code_above_15_accepted() {
     let finish = session.find(transfer(&session, "private read", 9), "F 0", DONE);
     session.rows[finish].line = "F 10".to_string();
     assert_broken(&session, &[(Clause::ReceiptError, finish)]);
+}
+
+#[test]
+fn a_receipt_with_bits_above_its_fields() {
+    for bit in 24..32 {
+        let mut session = long_session();
+        let finish = session.find(transfer(&session, "private read", 9), "F 0", DONE);
+        session.set_receipt(finish, session.value(finish) | 1 << bit);
+        assert_broken(&session, &[(Clause::ReceiptTop, finish)]);
+    }
 }
 
 // Receipts read and queued.
@@ -629,6 +669,11 @@ fn calls_in_reset_are_not_counted() {
         ("T", 0xa5),
         ("F 0", 0x100),
         (RECEIPT, 0x77),
+        ("W 00dc 00000001", 0),
+        ("R 00e0", 0x77),
+        ("R 00c8", 9),
+        ("R 00cc", 9),
+        ("A", 8),
         (ROOM, 9),
         ("R 0100", 0),
     ] {
@@ -652,205 +697,6 @@ fn only_writes_that_are_done_reset_and_release() {
 fn a_script_with_no_release_is_kept() {
     let session = Session::run(&["S", "R 00d8", "W 00d4 1"].map(String::from));
     assert_broken(&session, &[]);
-}
-
-// Refusals.
-
-/// The rows of a queue's reads that find it empty, from a row on.
-fn empty_reads(session: &Session, from: usize, read: &str) -> Vec<usize> {
-    let rows = from..session.rows.len();
-    rows.filter(|row| session.is(*row, read, EMPTY)).collect()
-}
-
-/// 01's first reading of an empty queue.
-#[test]
-fn an_empty_read_that_shows_0() {
-    for read in QUEUE_READS {
-        let mut session = long_session();
-        let reads = empty_reads(&session, 0, read);
-        let row = *reads.iter().find(|row| session.value(**row) > 0).unwrap();
-        session.set(row, 0, EMPTY);
-        assert_broken(&session, &[(Clause::EmptyReads, row)]);
-    }
-}
-
-#[test]
-fn an_empty_read_that_shows_another_queue_s_word() {
-    let mut session = long_session();
-    let row = session.find(transfer(&session, "ENTDAA", 9), "R 00e0", EMPTY);
-    let receipt = session.find(transfer(&session, "ENTDAA", 9), RECEIPT, DONE);
-    session.set(row, session.value(receipt), EMPTY);
-    assert_broken(&session, &[(Clause::EmptyReads, row)]);
-}
-
-/// The word before the last.
-#[test]
-fn an_empty_read_that_shows_an_older_word() {
-    let mut session = long_session();
-    let row = session.find(session.mark("four receipts"), RECEIPT, EMPTY);
-    assert!(session.is(row - 2, RECEIPT, DONE));
-    session.set(row, session.value(row - 2), EMPTY);
-    assert_broken(&session, &[(Clause::EmptyReads, row)]);
-}
-
-#[test]
-fn an_empty_read_that_shows_a_word_none_has_read() {
-    let mut session = long_session();
-    let row = session.find(session.mark("careless part"), "R 00e4", EMPTY);
-    session.set(row, 0x0010_5a00, EMPTY);
-    assert_broken(&session, &[(Clause::EmptyReads, row)]);
-}
-
-/// In reset, and after the release behind it.
-#[test]
-fn a_word_read_last_that_a_reset_kept() {
-    let session = long_session();
-    let reset = session.mark("reset in a read");
-    let release = session.mark("careless part");
-    assert!(reset < release);
-    for read in QUEUE_READS {
-        let before = (0..reset)
-            .rfind(|row| session.is(*row, read, DONE))
-            .unwrap();
-        for from in [reset, release] {
-            let mut session = session.clone();
-            let row = empty_reads(&session, from, read)[0];
-            session.set(row, session.value(before), EMPTY);
-            assert_broken(&session, &[(Clause::EmptyReads, row)]);
-        }
-    }
-}
-
-/// Whatever the number, whatever the call, in reset too; `WRONG_PARITY` alone has a value.
-#[test]
-fn a_refusal_with_a_value() {
-    let session = long_session();
-    let refused: Vec<usize> = (0..session.rows.len())
-        .filter(|row| session.rows[*row].answer.is_some())
-        .filter(|row| {
-            [DONE, EMPTY, WRONG_PARITY]
-                .iter()
-                .all(|n| !session.is(*row, "", *n))
-        })
-        .collect();
-    let reset = session.mark("reset in a read");
-    assert!(refused
-        .iter()
-        .any(|row| session.is(*row, "S", HELD_IN_RESET) && *row > reset));
-    let mut lines = std::collections::BTreeSet::new();
-    for row in refused {
-        let letter = session.rows[row].line.chars().next();
-        let number = session.rows[row].answer.as_ref().unwrap()[9..].to_string();
-        if lines.insert((letter, number.clone())) {
-            let mut session = session.clone();
-            session.set(row, 1, number.parse().unwrap());
-            assert_broken(&session, &[(Clause::RefusalsBare, row)]);
-        }
-    }
-    assert!(lines.len() > 15);
-}
-
-/// A register without a queue is not empty, so that the number is a refusal as any other.
-#[test]
-fn an_empty_read_of_no_queue() {
-    let mut session = long_session();
-    let end = session.mark("end of the careless part");
-    session.insert(end, "R 0008", 0x33, EMPTY);
-    assert_broken(&session, &[(Clause::RefusalsBare, end)]);
-}
-
-#[test]
-fn a_refused_set_up_with_a_value() {
-    let lines = [RELEASE, "B 0 0 0 0 0 0 0 0 0 0 0", "R 00d8"].map(String::from);
-    let mut session = Session::run_in(Mode::Test, &lines);
-    assert!(session.is(1, "B", SET_UP_OUT_OF_RANGE));
-    assert_broken(&session, &[]);
-    session.set(1, 1, SET_UP_OUT_OF_RANGE);
-    assert_broken(&session, &[(Clause::RefusalsBare, 1)]);
-}
-
-// Bursts.
-
-/// A direct write, a burst of a write and a read, a direct read, a reset in a burst;
-/// then the same on a bank with other capacities.
-fn session_with_bursts() -> Session {
-    let part = [
-        RELEASE,
-        "W 0180 00001102",
-        "W 02c0 00000110",
-        "W 02c4 00000211",
-        "W 0300 a5000000",
-        "W 00dc 5a000000",
-        "W 00d4 00000110",
-        "S",
-        "T",
-        "F 0",
-        "W 00d4 00000111",
-        "W 0100 00000005",
-        "G",
-        "R 0100",
-        "S",
-        "W 0100 00000000",
-        "T",
-        "F 0",
-        "G",
-        "X 01",
-        "F 0",
-        "F 0",
-        "P 0",
-        "W 0100 00000004",
-        "S",
-        "X 02",
-        "F 0",
-        RECEIPT,
-        RECEIPT,
-        RECEIPT,
-        "W 0100 00000005",
-        "G",
-        "T",
-        RESET,
-    ];
-    let lines = ["O 1"]
-        .iter()
-        .chain(&part)
-        .chain(&["B 2 2 1 2 1 0 0 0 0 0 0", "O 2"])
-        .chain(&part)
-        .map(|line| line.to_string());
-    Session::run_in(Mode::Test, &lines.collect::<Vec<_>>())
-}
-
-#[test]
-fn bursts_count_for_none() {
-    let session = session_with_bursts();
-    assert_eq!(session.count("G", DONE), 4);
-    assert_eq!(session.count("G", TRANSFER_OPEN), 2);
-    assert_eq!(session.count(RECEIPT, DONE), 4);
-    assert_broken(&session, &[]);
-}
-
-#[test]
-fn a_finish_past_the_burst() {
-    let mut session = session_with_bursts();
-    let last = session.find(0, "F 0", NO_TRANSFER);
-    session.set(last, 0, DONE);
-    // Its value then counts as a receipt, so that the next sync and read are wrong too.
-    assert_eq!(session.broken()[0], (Clause::OneReceiptEach, last));
-}
-
-#[test]
-fn a_receipt_of_a_burst_transfer() {
-    let mut session = session_with_bursts();
-    let first = session.find(0, RECEIPT, DONE);
-    session.insert(first, RECEIPT, 0x0000_0100, DONE);
-    assert_broken(&session, &[(Clause::ReceiptsRead, first + 1)]);
-}
-
-#[test]
-fn a_command_started_by_the_trigger() {
-    let mut session = session_with_bursts();
-    let start = session.find(session.find(0, "P 0", DONE), "S", DONE);
-    session.set(start, 0, NO_COMMAND);
-    assert_eq!(session.broken()[0], (Clause::RestWaits, start));
 }
 
 // Input and output.
@@ -927,16 +773,23 @@ fn the_report_has_a_line_for_each_clause() {
 kept: commands started in order, each once: 1 cases
 kept: commands not started still wait: 1 cases
 kept: started commands finished, save the last while open: 1 cases
+kept: commands and bursts open one at a time: 1 cases
 kept: events of the open command's kind: 2 cases
 kept: one receipt for each finished command: 1 cases
 kept: receipt sync: 1 cases
 kept: receipt length is the bytes moved: 1 cases
 kept: receipt length at most the commanded length: 1 cases
 kept: receipt error is the finish's code: 1 cases
+kept: receipt bits 31:24 are 0: 1 cases
 kept: receipts read in order: 1 cases
 kept: receipts not read still queued: 2 cases
 kept: command word after a room read above 0 taken: 0 cases
 kept: no command missing where each is written so: 0 cases
+kept: data words sent in order, each once: 2 cases
+kept: address words taken in order, each once: 0 cases
+kept: other data words still wait, save those removed: 1 cases
+kept: words received read in order: 0 cases
+kept: words received and not read still queued: 0 cases
 kept: an empty read shows the word read last: 1 cases
 kept: other refusals have value 0: 0 cases
 kept

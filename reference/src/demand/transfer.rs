@@ -3,7 +3,7 @@
 use super::clause::{Clause, Findings};
 use super::command::{Command, Kind};
 use crate::engine::Answer;
-use crate::number::{DONE, NO_TRANSFER, TRANSFER_OPEN};
+use crate::number::{NO_TRANSFER, TRANSFER_OPEN};
 
 #[derive(Debug)]
 pub struct Transfer {
@@ -11,6 +11,17 @@ pub struct Transfer {
     pub command: Option<Command>,
     /// Sends and receives answered `DONE` so far.
     pub moved: u64,
+}
+
+/// For which transfer an event was carried out.
+#[derive(Clone, Copy, Debug, PartialEq, Eq)]
+pub enum Owner {
+    /// The open command, which has such events as far as its words are known.
+    Command,
+    /// A transfer of the open burst.
+    Burst,
+    /// None that has such events.
+    None,
 }
 
 /// An answer's number as its line has it.
@@ -26,6 +37,9 @@ pub struct Transfers {
     /// Transfers of the open burst that have not finished. Demand 3 leaves bursts out, so
     /// that their events count for nothing (02 §3).
     burst_left: u32,
+    /// A burst was open beside a command or another burst, so that events can't be told
+    /// apart.
+    mixed_up: bool,
 }
 
 impl Transfers {
@@ -35,13 +49,33 @@ impl Transfers {
         findings.judge(Clause::OneOpen, self.open.is_none(), || {
             format!("expected command {number} finished first, saw the next one started")
         });
+        self.judge_apart("a command started", self.burst_left == 0, findings);
         self.started += 1;
         self.open = Some(Transfer { command, moved: 0 });
     }
 
-    /// A trigger answered `DONE`; its burst has this many commands.
-    pub fn trigger(&mut self, commands: u32) {
+    /// A trigger answered `DONE`; its burst has this many commands. Neither a command nor a
+    /// burst may be open before.
+    pub fn trigger(&mut self, commands: u32, findings: &mut Findings) {
+        let apart = self.open.is_none() && self.burst_left == 0;
+        self.judge_apart("a burst triggered", apart, findings);
         self.burst_left = commands;
+    }
+
+    fn judge_apart(&mut self, seen: &str, apart: bool, findings: &mut Findings) {
+        findings.judge(Clause::ApartFromBursts, apart, || {
+            let open = if self.open.is_some() {
+                "command"
+            } else {
+                "burst"
+            };
+            format!("expected the open {open} to finish first, saw {seen}")
+        });
+        self.mixed_up |= !apart;
+    }
+
+    pub fn are_mixed_up(&self) -> bool {
+        self.mixed_up
     }
 
     /// With no direct command open, an event is the burst's.
@@ -49,29 +83,39 @@ impl Transfers {
         self.open.is_none() && self.burst_left > 0
     }
 
-    /// An event answered `DONE` that only a command of this kind has; `bytes` is what it
-    /// moves.
-    pub fn event(&mut self, kind: Kind, bytes: u64, findings: &mut Findings) {
-        if self.is_in_burst() {
-            return;
+    /// An event carried out that only a command of this kind has; `bytes` is what it moves.
+    /// A burst has no ENTDAA (02 §3).
+    pub fn event(
+        &mut self,
+        kind: Kind,
+        bytes: u64,
+        answer: Answer,
+        findings: &mut Findings,
+    ) -> Owner {
+        if self.is_in_burst() && kind != Kind::Entdaa {
+            return Owner::Burst;
         }
         let Some(transfer) = &mut self.open else {
             findings.judge(Clause::EventsOfItsKind, false, || {
-                format!(
-                    "expected a refusal, {} is not open, saw {DONE:02}",
-                    kind.name()
-                )
+                let (kind, seen) = (kind.name(), number_text(answer));
+                format!("expected a refusal, {kind} is not open, saw {seen}")
             });
-            return;
+            return Owner::None;
         };
         transfer.moved += bytes;
-        if let Some(command) = transfer.command {
-            let kept = command.kind() == kind;
-            findings.judge(Clause::EventsOfItsKind, kept, || {
-                let open_kind = command.kind().name();
-                let first = command.first;
-                format!("expected a refusal for {first:08x}, {open_kind}, saw {DONE:02}")
-            });
+        let Some(command) = transfer.command else {
+            return Owner::Command;
+        };
+        let kept = command.kind() == kind;
+        findings.judge(Clause::EventsOfItsKind, kept, || {
+            let (open_kind, seen) = (command.kind().name(), number_text(answer));
+            let first = command.first;
+            format!("expected a refusal for {first:08x}, {open_kind}, saw {seen}")
+        });
+        if kept {
+            Owner::Command
+        } else {
+            Owner::None
         }
     }
 

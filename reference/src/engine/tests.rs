@@ -1,5 +1,5 @@
 //! Tests of the engine, rule by rule, and a walk of random calls against the
-//! count of demand 3.
+//! count of demand 3, data words included.
 
 mod bursts;
 mod empty_reads;
@@ -818,8 +818,12 @@ struct Count {
     offload_length: u32,
     /// Transfers of a burst that are still to come; demand 3 leaves them out (02 §3).
     burst_left: u32,
-    /// What SDO holds. Demand 3 does not ask for it.
+    /// What SDO and SDI hold, the word that is being sent and the bytes that fill no word
+    /// yet (02 §13).
     sdo: VecDeque<u32>,
+    sdi: VecDeque<u32>,
+    sent: u32,
+    gathered: Vec<u8>,
     /// The words read last at 0x0d8, 0x0e0 and 0x0e4 (02 §5).
     last_read: [u32; 3],
     empty_reads: usize,
@@ -886,7 +890,10 @@ impl Count {
             return;
         }
         if *call == Call::AddressTake && [DONE, WRONG_PARITY].contains(&answer.number) {
-            self.sdo.pop_front();
+            let word = self.sdo.pop_front().unwrap();
+            assert_eq!(answer.value, word >> 25);
+            let odd = (word >> 24).count_ones() % 2 == 1;
+            assert_eq!(answer.number == DONE, odd);
         }
         if answer.number != DONE {
             return;
@@ -919,6 +926,9 @@ impl Count {
                 }
             }
             Call::Read { offset: 0xd8 } => self.receipts_read.push(answer.value),
+            Call::Read { offset: 0xe0 } => {
+                assert_eq!(self.sdi.pop_front(), Some(answer.value));
+            }
             Call::Start => {
                 assert!(!self.open && self.burst_left == 0);
                 self.open = true;
@@ -926,9 +936,11 @@ impl Count {
                 self.start_values.push(answer.value);
             }
             Call::Send | Call::Receive { .. } => self.note_payload(call, answer.value),
-            Call::AddressRequest { .. } | Call::AddressTake => {
+            Call::AddressRequest { first, second } => {
                 assert!(self.open && is_entdaa(&self.open_command()));
+                self.sdi.extend([first, second]);
             }
+            Call::AddressTake => assert!(self.open && is_entdaa(&self.open_command())),
             Call::Finish { code } => self.note_finish(code, answer.value),
             _ => {}
         }
@@ -952,10 +964,27 @@ impl Count {
         let command = self.open_command();
         assert!(!is_entdaa(&command));
         assert_eq!(command[0] & 1 == 0, *call == Call::Send);
-        if *call == Call::Send && self.moved.is_multiple_of(4) {
-            assert_eq!(self.sdo.pop_front().unwrap() >> 24, value);
+        if let Call::Receive { byte } = *call {
+            self.gathered.push(byte);
+            if self.gathered.len() == 4 {
+                self.note_gathered();
+            }
+        } else {
+            let place = self.moved % 4;
+            if place == 0 {
+                self.sent = self.sdo.pop_front().unwrap();
+            }
+            assert_eq!(self.sent >> (24 - 8 * place) & 0xff, value);
         }
         self.moved += 1;
+    }
+
+    /// The bytes received so far make a word, with zeros behind.
+    fn note_gathered(&mut self) {
+        self.gathered.resize(4, 0);
+        let word = self.gathered.drain(..);
+        self.sdi
+            .push_back(word.fold(0, |word, byte| word << 8 | u32::from(byte)));
     }
 
     /// The whole receipt is known from the calls before it (00, demand 3).
@@ -969,6 +998,9 @@ impl Count {
             command[0] >> 8 & 0xfff
         };
         assert!(self.moved <= length);
+        if !self.gathered.is_empty() {
+            self.note_gathered();
+        }
         if !is_entdaa(&command) && command[0] & 1 == 0 && code != 0 {
             self.note_failed_write(length);
         }
@@ -991,6 +1023,7 @@ impl Count {
             return;
         }
         assert_eq!(bank.sdo.words, self.sdo);
+        assert_eq!(bank.sdi.words, self.sdi);
         let commands = self.commands();
         let started = self.start_values.len();
         assert!(started <= commands.len());

@@ -12,7 +12,7 @@ pub const ROOM: &str = "R 00c0";
 pub const RECEIPT: &str = "R 00d8";
 /// CMDR, SDI and IBI.
 pub const QUEUE_READS: [&str; 3] = [RECEIPT, "R 00e0", "R 00e4"];
-/// Rounds of the careful part; each has seven transfers.
+/// Rounds of the careful part; each has more than six transfers.
 const ROUNDS: u32 = 44;
 const CCC: u32 = 1 << 22;
 
@@ -93,6 +93,11 @@ impl Session {
         u32::from_str_radix(&self.rows[row].answer.as_ref().unwrap()[..8], 16).unwrap()
     }
 
+    /// The word that a row's line writes.
+    pub fn written(&self, row: usize) -> u32 {
+        u32::from_str_radix(&self.rows[row].line[7..], 16).unwrap()
+    }
+
     pub fn set(&mut self, row: usize, value: u32, number: u8) {
         assert!(self.rows[row].answer.is_some());
         self.rows[row].answer = Some(format!("{value:08x} {number:02}"));
@@ -149,6 +154,8 @@ impl Session {
 struct Script {
     lines: Vec<String>,
     serial: u32,
+    data_words: u32,
+    data_bytes: u8,
     /// The room is read before each command word.
     careful: bool,
 }
@@ -181,15 +188,20 @@ impl Script {
         self.word(self.serial << 23 | word);
     }
 
+    /// Words that differ from their neighbours in each byte.
     fn data(&mut self, length: u32) {
-        for word in 0..length.div_ceil(4) {
-            self.line(&format!("W 00dc {:08x}", 0xa5c3_1100 + word));
+        for _ in 0..length.div_ceil(4) {
+            self.data_words += 1;
+            let word = 0xa5c3_1177_u32.wrapping_add(self.data_words.wrapping_mul(0x1b2d_3f4d));
+            self.line(&format!("W 00dc {word:08x}"));
         }
     }
 
+    /// Bytes that differ from their neighbours; none is 0, as the padding is.
     fn receive(&mut self, count: u32) {
-        for byte in 0..count {
-            self.line(&format!("X {byte:02x}"));
+        for _ in 0..count {
+            self.data_bytes = self.data_bytes % 255 + 1;
+            self.line(&format!("X {:02x}", self.data_bytes));
         }
     }
 
@@ -201,7 +213,7 @@ impl Script {
     }
 
     fn show(&mut self) {
-        for offset in ["00c4", "00e8", "0100", "00c0"] {
+        for offset in ["00c4", "00e8", "0100", "00c8", "00cc", "00c0"] {
             self.line(&format!("R {offset}"));
         }
     }
@@ -300,6 +312,111 @@ impl Script {
         self.end(8, 0);
     }
 
+    fn write_of(&mut self, length: u32) {
+        self.command(length << 8 | 0x10);
+        self.line("S");
+        self.repeat("T", length);
+        self.show();
+        self.end(0, 0);
+    }
+
+    /// Three words before the first of two writes; the second needs one more, which comes
+    /// late.
+    fn data_in_advance(&mut self) {
+        self.mark("data in advance");
+        self.data(12);
+        self.show();
+        self.write_of(5);
+        self.command(0x0610);
+        self.line("S");
+        self.repeat("T", 5);
+        self.data(4);
+        self.repeat("T", 2);
+        self.end(0, 0);
+    }
+
+    /// Full words are read while the read is open; the part word comes with its finish.
+    fn read_in_parts(&mut self) {
+        self.mark("read in parts");
+        self.command(0x0b11);
+        self.line("S");
+        self.receive(9);
+        self.show();
+        self.line("R 00e0");
+        self.receive(2);
+        self.repeat("R 00e0", 2);
+        self.show();
+        self.end(0, 3);
+    }
+
+    /// Of three words a failed write removes two; the next write has the third.
+    fn failed_with_more_data(&mut self) {
+        self.mark("failed with more data");
+        self.data(12);
+        self.command(0x0020_0710);
+        self.line("S");
+        self.show();
+        self.end(4, 0);
+        self.show();
+        self.write_of(3);
+    }
+
+    /// A failed write finds one word of three; a later word stays, over a failed read too.
+    fn failed_with_less_data(&mut self) {
+        self.mark("failed with less data");
+        self.data(4);
+        self.command(0x0910);
+        self.line("S");
+        self.end(6, 0);
+        self.show();
+        self.data(4);
+        self.command(0x0811);
+        self.line("S");
+        self.end(6, 0);
+        self.show();
+        self.write_of(4);
+    }
+
+    /// The word that came for it stays, and the next write has it.
+    fn entdaa_unanswered(&mut self) {
+        self.mark("ENTDAA unanswered");
+        self.command(CCC | 0x400);
+        self.word(0x07);
+        self.line("S");
+        self.data(4);
+        self.end(4, 0);
+        self.show();
+        self.write_of(4);
+    }
+
+    /// A fifth word for SDO and a fifth of SDI have no room, nor has a third address request.
+    fn full_data_queues(&mut self) {
+        self.mark("full data queues");
+        self.data(20);
+        self.show();
+        self.write_of(16);
+        self.command(0x1711);
+        self.line("S");
+        self.receive(20);
+        self.show();
+        self.line("R 00e0");
+        self.receive(4);
+        self.line("F 0");
+        self.line("R 00e0");
+        self.end(0, 16);
+        self.command(CCC);
+        self.word(0x07);
+        self.line("S");
+        for _ in 0..2 {
+            self.line("D 12345678 9abcdef0");
+            self.line("A");
+            self.line("W 00dc 10000000");
+            self.line("A");
+        }
+        self.line("D 3 4");
+        self.end(0, 16);
+    }
+
     /// Four commands wait, more words are dropped, receipts fill CMDR, a finish has no
     /// room.
     fn full_queues(&mut self) {
@@ -325,11 +442,13 @@ impl Script {
 }
 
 /// Many transfers of each kind, more than 256 receipts in one part, resets in open
-/// transfers, words dropped, an address word with wrong parity.
+/// transfers, words dropped, an address word with wrong parity, data that waits.
 pub fn long_session() -> Session {
     let mut script = Script {
         lines: Vec::new(),
         serial: 0,
+        data_words: 0,
+        data_bytes: 0,
         careful: true,
     };
     script.line("no call");
@@ -354,6 +473,13 @@ pub fn long_session() -> Session {
         script.not_acknowledged();
         script.line("");
         script.not_attached();
+        if round % 8 == 0 {
+            script.data_in_advance();
+            script.read_in_parts();
+            script.failed_with_more_data();
+            script.failed_with_less_data();
+            script.entdaa_unanswered();
+        }
     }
     script.command(0x0411);
     script.line("S");
@@ -377,6 +503,9 @@ pub fn long_session() -> Session {
     }
     script.private_write(5);
     script.mark("end of the careless part");
+    script.line(RESET);
+    script.line(RELEASE);
+    script.full_data_queues();
     script.line(RESET);
     script.line(RELEASE);
     script.data(4);

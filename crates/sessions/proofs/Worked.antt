@@ -1,4 +1,4 @@
--- The worked session of 01, as text: its ten lines print the answers beside them.
+-- The worked session of 01, with the last answer of 02 §5, as text: its ten lines print the answers beside them.
 use mathlib.Core.Path.{_≡_, refl}
 use mathlib.Core.List.{[], _∷_}
 use Rattle.model.specs.Cases.{workedSession}

@@ -103,6 +103,10 @@ def respell(text, table, is_rust):
     def one(m):
         return table.get(m.group(0), m.group(0))
 
+    # The name of a rule, as `set-up.numbers`, is none of these names.
+    parts = re.split(r'(`[a-z][a-z0-9-]*\.[a-z0-9-]+`)', text)
+    if len(parts) > 1:
+        return ''.join(p if i % 2 else respell(p, table, is_rust) for i, p in enumerate(parts))
     if not is_rust:
         text = re.sub(r'(?<=◌)[a-z][A-Za-z0-9]*(?=◌)', one, text)
         return WORD.sub(one, text)

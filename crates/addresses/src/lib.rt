@@ -1,5 +1,7 @@
 // Address requests and address takes of ENTDAA, as decisions (`request.tests`, `request.opens`, `take.tests`,
 // `take.address`). It knows the state, and of SDO its first word.
+#![tactic(auto)]
+
 ghost use Rattle.std.specs.Prelude.{◌≡◌, cond, ℕ, ◌/◌, ◌%◌, ◌^◌, eqb};
 ghost use Rattle.std.specs.Int.Count.{ones};
 ghost use Rattle.bank.specs.declared.Phase.TheVariants.{Requested, Answered};

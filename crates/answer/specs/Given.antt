@@ -56,7 +56,7 @@ decided st h t s d = let l = controller (bank_with st h t) s t.output in outcome
 abbrev pub served : State → Heads → Tables → List ℕ → Effect → Step Controller
 served st h t s e = let l = controller (bank_with st h t) s t.output in outcome none e l (settle_rings l e)
 
--- of what the two tests say, what decisions need: the rings are valid (`formed.set_up_lem`), the store has their length (`answer.bank`), and
+-- of what the two tests say, what decisions need: the rings are valid (`formed.set-up`), the store has their length (`answer.bank`), and
 -- what is open is well formed
 pub record Open (st : State) (h : Heads) (commands s : List ℕ) : Type 0 where
   pub queues : queues_ok (queues_of st.caps st.levels h) ≡ true

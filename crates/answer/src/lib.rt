@@ -1,12 +1,14 @@
 // What a call gives: its answer, with the state or the bank after it; and, as definitions, which step of the ring
 // engine such a result is. It knows no call.
+#![tactic(auto)]
+
 ghost use Rattle.std.specs.Prelude.{◌≡◌};
 ghost use Rattle.answer.specs.Given.{next_of, refused_next};
 
 use bank::{Answer, Bank, Control, Counts, Heads, Phase, Regs, State};
 
 // The state and the heads after a call, and its answer. The tables stay where they are.
-#[derive(Drop)]
+#[derive(Clone, Copy)]
 pub struct Next {
     pub state: State,
     pub heads: Heads,
@@ -14,7 +16,7 @@ pub struct Next {
 }
 
 // The bank after a call and its answer: what the calls of the interface give.
-#[derive(Drop)]
+#[derive(Clone, Copy)]
 pub struct Out {
     pub bank: Bank,
     pub answer: Answer,

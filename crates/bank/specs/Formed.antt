@@ -13,7 +13,7 @@ use Rattle.bank.specs.Bursts.{offloads, span, all_carried, bursting, place, open
 use Rattle.bank.specs.Queues.{Queues, queues_in}
 use Rattle.bank.specs.SetUp.{size_ok, marks_ok}
 
--- `formed.set_up_lem`, of one queue: capacity, first place and level
+-- `formed.set-up`, of one queue: capacity, first place and level
 abbrev pub ring_ok : ℕ → Ring → Bool
 ring_ok least r = size_ok least r.cap.0 && ltb r.head r.cap.0 && leb r.level.0 r.cap.0
 
@@ -62,7 +62,7 @@ control_clear c = eqb c.sync 0 && eqb c.ibisync 0 && not c.cmdrpending && not c.
 unfoldable pub reset_ok : Control → Phase → Queues → Bool
 reset_ok c p q = not c.held || (queues_clear q && control_clear c && idle p)
 
--- a bank is well formed; the watermarks of `formed.set_up_lem` stand among the registers
+-- a bank is well formed; the watermarks of `formed.set-up` stand among the registers
 unfoldable pub well_formed : Bank → Bool
 well_formed b =
     let s = b.state in

@@ -12,14 +12,14 @@ use Rattle.bank.specs.declared.Bank.{Bank}
 use Rattle.bank.specs.declared.Sizes.{Sizes}
 use Rattle.bank.specs.declared.SetUp.{SetUp}
 
--- `set_up_lem.numbers`: a capacity, from the least that its queue may have
+-- `set-up.numbers`: a capacity, from the least that its queue may have
 abbrev pub size_ok : ℕ → ℕ → Bool
 size_ok least cap = leb least cap && leb cap 1024
 
 unfoldable pub caps_ok : Counts → Bool
 caps_ok k = size_ok 2 k.cmd.0 && size_ok 1 k.cmdr.0 && size_ok 1 k.sdo.0 && size_ok 2 k.sdi.0 && size_ok 1 k.ibi.0
 
--- `set_up_lem.numbers`: watermarks m of queues with the capacities k
+-- `set-up.numbers`: watermarks m of queues with the capacities k
 unfoldable pub marks_ok : Counts → Counts → Bool
 marks_ok m k = leb m.cmd.0 k.cmd.0 && leb m.cmdr.0 k.cmdr.0 && leb m.sdo.0 k.sdo.0 && leb m.sdi.0 k.sdi.0 && leb m.ibi.0 k.ibi.0
 
@@ -55,11 +55,11 @@ bank_of c m held id =
       payloads = replicate 16 0;
     }
 
--- `set_up_lem.refused`: a bank of zeros, with ENABLE 0 too, and 23
+-- `set-up.refused`: a bank of zeros, with ENABLE 0 too, and 23
 abbrev pub refused_set_up : SetUp
 refused_set_up = record { bank = bank_of zeros zeros false 0; answer = record { value = 0; number = number.set_up_out_of_range } }
 
--- `set_up_lem.fresh`: a bank in reset and 0, where all numbers are in range (`set_up_lem.numbers`)
+-- `set-up.fresh`: a bank in reset and 0, where all numbers are in range (`set-up.numbers`)
 unfoldable pub set_up : Sizes → Sizes → ℕ → SetUp
 set_up c m id = cond (leb id 255 && sizes_ok c m) (record { bank = bank_of c m true id; answer = record { value = 0; number = 0 } }) refused_set_up
 

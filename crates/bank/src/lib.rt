@@ -1,6 +1,8 @@
 // One controller's state (`bank.one`): the numbers of its queues, registers, control bits, the open transfer, device
 // table and offload memories; what a phase and a burst say of the transfer; and, as definitions, set-up and when a bank
 // is well formed. It knows no call.
+#![tactic(auto)]
+
 ghost use Rattle.std.specs.Prelude.{◌≡◌, cond, ◌+◌, ◌-◌, get_or};
 ghost use Rattle.bank.specs.Bits.{bit};
 ghost use Rattle.bank.specs.SetUp.{size_ok, marks_ok, cleared, total};
@@ -8,7 +10,7 @@ ghost use Rattle.bank.specs.SetUp.{size_ok, marks_ok, cleared, total};
 use ring::{Bytes, Words};
 
 // A count of words for each queue: capacities, levels or watermarks.
-#[derive(Drop)]
+#[derive(Clone, Copy)]
 pub struct Counts {
     pub cmd: Words,
     pub cmdr: Words,
@@ -18,7 +20,7 @@ pub struct Counts {
 }
 
 // Where the first word of each queue lies within its area of the store.
-#[derive(Drop)]
+#[derive(Clone, Copy)]
 pub struct Heads {
     pub cmd: u32,
     pub cmdr: u32,
@@ -29,7 +31,7 @@ pub struct Heads {
 
 // The registers that a reset leaves (`enable.keeps`): ID, SCRATCH, IRQ_MASK, OPS but its bit 7, IBI_CONFIG, the address
 // that DEV_CHAR selects, and the watermarks.
-#[derive(Drop)]
+#[derive(Clone, Copy)]
 pub struct Regs {
     pub id: u8,
     pub scratch: u32,
@@ -41,7 +43,7 @@ pub struct Regs {
 }
 
 // The words last read from the queues that the driver reads, since the release; 0 where none was (`take.empty`).
-#[derive(Drop)]
+#[derive(Clone, Copy)]
 pub struct Latest {
     pub cmdr: u32,
     pub sdi: u32,
@@ -51,7 +53,7 @@ pub struct Latest {
 // What a reset sets besides the queues and the transfer (`enable.reset`): the ENABLE bit, the sync of receipts and that
 // of interrupts, the pending bits 5, 6 and 7, where an offload burst stands (0 where none is open, else 1 more than
 // the place of the command whose transfer is open), and the words last read.
-#[derive(Drop)]
+#[derive(Clone, Copy)]
 pub struct Control {
     pub held: bool,
     pub sync: u8,
@@ -63,7 +65,7 @@ pub struct Control {
     pub latest: Latest,
 }
 
-#[derive(Drop)]
+#[derive(Clone, Copy)]
 pub enum Kind {
     Private,
     // A CCC for one device.
@@ -74,7 +76,7 @@ pub enum Kind {
 
 // An open transfer: the fields of its command that a later event asks for, the bytes moved, whether its device was
 // attached when it opened, and the part word, which has the bytes gathered, or those left to send, at its top.
-#[derive(Drop)]
+#[derive(Clone, Copy)]
 pub struct Transfer {
     pub kind: Kind,
     pub header: bool,
@@ -86,7 +88,7 @@ pub struct Transfer {
 
 // The phase of the transfer. An address assignment (ENTDAA) has had no request, has one open, or has had some and none
 // is open.
-#[derive(Drop)]
+#[derive(Clone, Copy)]
 pub enum Phase {
     Idle,
     Writing(Transfer),
@@ -97,7 +99,7 @@ pub enum Phase {
 }
 
 // What calls decide by, besides words of queues and tables. Where the queues lie is not told here.
-#[derive(Drop)]
+#[derive(Clone, Copy)]
 pub struct State {
     pub caps: Counts,
     pub levels: Counts,
@@ -109,7 +111,7 @@ pub struct State {
 // The state of one controller (`bank.one`), without the words of its queues: beside what calls decide by, where the
 // queues lie, the flags of the 128 devices (`device.flags`: bit 0 attached, bit 1 may interrupt, bit 2 sends a data
 // byte), the offload commands and the offload data words.
-#[derive(Drop)]
+#[derive(Clone, Copy)]
 pub struct Bank {
     pub state: State,
     pub heads: Heads,
@@ -119,14 +121,14 @@ pub struct Bank {
 }
 
 // What a call answers (`answer.pair`).
-#[derive(Drop)]
+#[derive(Clone, Copy)]
 pub struct Answer {
     pub value: u32,
     pub number: u32,
 }
 
 // Five capacities, or five watermarks, as a caller gives them.
-#[derive(Drop)]
+#[derive(Clone, Copy)]
 pub struct Sizes {
     pub cmd: u32,
     pub cmdr: u32,
@@ -136,7 +138,7 @@ pub struct Sizes {
 }
 
 // What set-up gives.
-#[derive(Drop)]
+#[derive(Clone, Copy)]
 pub struct SetUp {
     pub bank: Bank,
     pub answer: Answer,
@@ -150,6 +152,7 @@ pub fn size_ok(least: u32, cap: u32) -> bool
 }
 
 // Whether each watermark is at most its queue's capacity (`set-up.numbers`).
+#[tactic(auto, unfolding(crate::specs::SetUp::marks_ok))]
 pub fn marks_ok(marks: Counts, caps: Counts) -> bool
     ensures { result ≡ marks_ok marks caps }
 {

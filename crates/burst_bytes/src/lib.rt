@@ -1,5 +1,7 @@
 // A byte sent and a byte received in an open burst, as decisions (`burst.events`, `burst.bytes`). They know the state
 // and the tables, and no queue.
+#![tactic(auto)]
+
 ghost use Rattle.std.specs.Prelude.{◌≡◌, true, List, ℕ, ◌-◌, ◌≤◌, length, get_or};
 ghost use Rattle.bank.specs.Bursts.{writes_in, bursting, place};
 ghost use Rattle.bank.specs.Formed.{open_ok};

@@ -1,4 +1,6 @@
 // Which commands an offload burst runs, and where it stands: specs/Bursts.antt in code.
+#![tactic(auto)]
+
 ghost use Rattle.std.specs.Prelude.{◌≡◌, ◌≤◌};
 ghost use Rattle.bank.specs.Bursts.{offloads, span, carried, all_carried, reads_in, bursting, opens, gathered_bytes};
 

@@ -1,5 +1,7 @@
 // The finish of a transfer in an open burst, as a decision (`burst.finish`): its word goes to the output, the next
 // command's transfer opens. It knows the state and the tables, and no queue.
+#![tactic(auto)]
+
 ghost use Rattle.std.specs.Prelude.{◌≡◌, true, cond, ◌||◌, List, ℕ, ◌+◌, ◌-◌, ◌≤◌, length, get_or};
 ghost use Rattle.bank.specs.declared.Phase.TheVariants.{Idle};
 ghost use Rattle.bank.specs.Bits.{bit, bits};

@@ -1,5 +1,7 @@
 // What is told of a call by itself, on any engine: whether an argument is out of its range (`answer.range`), whether it
 // is an event; and, as laws, what follows for its decision, and which word a read takes.
+#![tactic(auto)]
+
 ghost use Rattle.std.specs.Prelude.{◌≡◌, not};
 ghost use Rattle.model.specs.Laws.{is_access};
 ghost use Rattle.model.specs.Bursts.{misfit};

@@ -1,6 +1,8 @@
 // The interface: `step` over any call, and each call by its name (`call.step`). Any bank, store, output and argument is
 // allowed, and every call ends with one answer (`answer.every`). The output takes the words that a burst reads; without
 // a burst it may be empty.
+#![tactic(auto)]
+
 ghost use Rattle.std.specs.Prelude.{◌≡◌, ℕ, List, []};
 ghost use Rattle.model.specs.declared.Call.TheVariants.{Read, Write, Start, Send, Receive, Finish, Interrupt, Request, Take, Trigger};
 ghost use Rattle.model.specs.View.{tables};

@@ -1,5 +1,7 @@
 // Any call, decided on the rings of a bank: 18 (`answer.range`), then by `offload` where it is an event in an open
 // burst, else by `outside`.
+#![tactic(auto)]
+
 ghost use Rattle.std.specs.Prelude.{◌≡◌, not, List, ℕ, length};
 ghost use Rattle.model.specs.View.{tables};
 ghost use Rattle.model.specs.Laws.{is_access};

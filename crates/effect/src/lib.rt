@@ -1,6 +1,8 @@
 // What a call decides, as a value: the answer and the state after it, one operation for each queue, and one for a
 // table; and the first tests of events, 5, 6 and 7. It knows the definitions of calls and no engine: an effect says
 // nothing of where queues lie, and `settle` moves queues and tables by it.
+#![tactic(auto)]
+
 ghost use Rattle.std.specs.Prelude.{◌≡◌, cond, not};
 ghost use Rattle.number.specs.Names as number;
 ghost use Rattle.model.specs.View.{Tables, each};
@@ -11,7 +13,7 @@ ghost use Rattle.effect.specs.Seen.{Fronts, seen};
 use bank::{Answer, Control, Phase, Regs, State};
 
 // What happens to a queue.
-#[derive(Drop)]
+#[derive(Clone, Copy)]
 pub enum Op {
     Keep,
     Clear,
@@ -23,7 +25,7 @@ pub enum Op {
 }
 
 // What happens to the five queues. Where `any` does not hold nothing happens to any of them, and none is looked at.
-#[derive(Drop)]
+#[derive(Clone, Copy)]
 pub struct Ops {
     pub any: bool,
     pub cmd: Op,
@@ -34,7 +36,7 @@ pub struct Ops {
 }
 
 // What happens to the tables and to the lent output: nothing, or one entry, by its place, gets another value.
-#[derive(Drop)]
+#[derive(Clone, Copy)]
 pub enum Table {
     Same,
     Flags(u32, u8),
@@ -44,7 +46,7 @@ pub enum Table {
 }
 
 // An effect. The levels of its state are as before the call: the operations say how they move.
-#[derive(Drop)]
+#[derive(Clone, Copy)]
 pub struct Effect {
     pub state: State,
     pub answer: Answer,

@@ -1,4 +1,6 @@
 // Which code may end the open transfer (`finish.codes`), in a burst and outside. It knows a phase and a code.
+#![tactic(auto)]
+
 ghost use Rattle.std.specs.Prelude.{◌≡◌};
 ghost use Rattle.model.specs.Calls.{ends_entdaa, ends_other, allowed};
 

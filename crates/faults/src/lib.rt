@@ -1,5 +1,7 @@
 // The two tests before every call (`answer.bank`): a well-formed bank, and a store as long as its capacities together;
 // and, as a law, that no call changes what they say (`formed.kept`). It knows no call's own rules.
+#![tactic(auto)]
+
 ghost use Rattle.std.specs.Prelude.{◌≡◌, true, List, ℕ, eqb};
 ghost use Rattle.bank.specs.SetUp.{total};
 ghost use Rattle.faults.specs.Faults.{fault_by, fault_number};

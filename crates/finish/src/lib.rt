@@ -1,5 +1,7 @@
 // The finish outside a burst, as a decision (`finish.tests`, `finish.receipt`, `finish.removal`), of a code that passed
 // 18. It knows the state and the code.
+#![tactic(auto)]
+
 ghost use Rattle.std.specs.Prelude.{◌≡◌, ◌<◌, ◌≤◌, true};
 ghost use Rattle.bank.specs.Formed.{phase_ok};
 ghost use Rattle.model.specs.View.{Tables};

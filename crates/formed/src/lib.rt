@@ -1,4 +1,6 @@
 // Whether a bank is well formed, from its parts: `formed_ranges`, `formed_reset`, `formed_transfer`, `formed_burst`.
+#![tactic(auto)]
+
 ghost use Rattle.std.specs.Prelude.{◌≡◌, List, ℕ};
 ghost use Rattle.bank.specs.Formed.{open_ok, well_formed};
 

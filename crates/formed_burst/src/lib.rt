@@ -1,5 +1,7 @@
 // A part of well formed: the mode and the commands of an open burst, the place where it stands, and the transfer of the
 // command there (`formed.burst`).
+#![tactic(auto)]
+
 ghost use Rattle.std.specs.Prelude.{◌≡◌};
 ghost use Rattle.bank.specs.Bursts.{place};
 ghost use Rattle.bank.specs.Formed.{burst_ok};

@@ -1,5 +1,7 @@
 // A part of well formed: rings (`formed.set-up`), registers and device flags (`formed.fields`) are in range. It knows
 // neither the open transfer nor a burst.
+#![tactic(auto)]
+
 ghost use Rattle.std.specs.Prelude.{◌≡◌};
 ghost use Rattle.bank.specs.Queues.{ring, queues_of};
 ghost use Rattle.bank.specs.Formed.{ring_ok, queues_ok, regs_ok, flags_ok};

@@ -1,5 +1,7 @@
 // A part of well formed: in reset the queues are empty, no transfer and no burst is open, and syncs, pending bits and
 // the words last read are 0 (`formed.reset`).
+#![tactic(auto)]
+
 ghost use Rattle.std.specs.Prelude.{◌≡◌};
 ghost use Rattle.bank.specs.declared.Counts.{Counts};
 ghost use Rattle.bank.specs.Queues.{queues_of};

@@ -1,5 +1,7 @@
 // A part of well formed: the length of the open transfer (`formed.fields`), the bytes that it has moved
 // (`formed.moved`) and its part word (`formed.part`).
+#![tactic(auto)]
+
 ghost use Rattle.std.specs.Prelude.{◌≡◌, ◌-◌, ◌*◌, ◌%◌, ◌^◌, eqb};
 ghost use Rattle.bank.specs.Formed.{transfer_ok, phase_ok};
 

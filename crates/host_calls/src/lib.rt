@@ -1,4 +1,6 @@
 // The calls of a host on pieces that have their lengths: a set-up, and one call. Layers, no interface.
+#![tactic(auto)]
+
 ghost use Rattle.std.specs.Prelude.{◌≡◌, true, length};
 ghost use Rattle.bank.specs.Formed.{well_formed};
 ghost use Rattle.model.specs.Engine.{step};

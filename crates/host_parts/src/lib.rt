@@ -1,5 +1,7 @@
 // What the calls of a host are made of: the lengths of what is lent, an answer packed into one number, the tests of a
 // call's numbers, and what is told in lent memory.
+#![tactic(auto)]
+
 ghost use Rattle.std.specs.Prelude.{◌≡◌, ◌&&◌, leb, set};
 ghost use Rattle.image_model.specs.Image.{kept, sized};
 ghost use Rattle.host_model.specs.Host.{triggers, packed_of, told_in, placed_in};

@@ -1,5 +1,7 @@
 // A host's replay, on image and tables of any contents. Words that no state has, and an image of another length, are
 // answered by the same loop: on a bank that is not well formed, on which each record is answered 21. A layer, no interface.
+#![tactic(auto)]
+
 ghost use Rattle.std.specs.Prelude.{◌≡◌, true, false, List, ℕ, length};
 ghost use Rattle.bank.specs.Formed.{well_formed};
 ghost use Rattle.answer.specs.Memory.{lent_without, left_without, controller_of};

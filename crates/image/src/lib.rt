@@ -1,5 +1,7 @@
 // Whether words are an image: those of the state that they say. Each field is tested by its range: no state is put
 // together and compared. A layer, no interface: the calls above test the length once.
+#![tactic(auto)]
+
 ghost use Rattle.std.specs.Prelude.{◌≡◌, [], ◌∷◌, ◌+◌, ◌%◌, ◌≤◌, eqb, length, get_or};
 ghost use Rattle.ring.specs.Units.{bytes};
 ghost use Rattle.bank.specs.Bits.{word_if};

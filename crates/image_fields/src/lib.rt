@@ -1,4 +1,6 @@
 // A state and its heads out of the words of an image. Layers, no interface.
+#![tactic(auto)]
+
 ghost use Rattle.std.specs.Prelude.{◌≡◌, ◌+◌, ◌≤◌, length};
 ghost use Rattle.image_model.specs.Image.{size, counts_in, heads_in, byte_in, bit_in, kind_in, transfer_in, phase_in, regs_in, latest_in, control_in, state_in};
 

@@ -1,4 +1,6 @@
 // A state and its heads as the words of an image. A layer, no interface.
+#![tactic(auto)]
+
 ghost use Rattle.std.specs.Prelude.{◌≡◌, length};
 ghost use Rattle.image_model.specs.Image.{size, kind_number, image_of};
 

@@ -1,4 +1,4 @@
--- `call.in_place`: what a call leaves where bank, store and output lie, with its answer, as a step of the ring engine.
+-- `call.in-place`: what a call leaves where bank, store and output lie, with its answer, as a step of the ring engine.
 use Rattle.std.specs.Prelude.{ℕ, List}
 use Rattle.bank.specs.declared.Bank.{Bank}
 use Rattle.bank.specs.declared.Answer.{Answer}

@@ -1,5 +1,7 @@
-// Calls on a bank that is changed where it lies (`call.in_place`): each copies the bank, makes the call of the
+// Calls on a bank that is changed where it lies (`call.in-place`): each copies the bank, makes the call of the
 // interface and stores the result back.
+#![tactic(auto)]
+
 ghost use Rattle.std.specs.Prelude.{ℕ, ◌≡◌, List};
 ghost use Rattle.model.specs.declared.Call.TheVariants.{Read, Write};
 ghost use Rattle.model.specs.Engine.{step};

@@ -1,5 +1,7 @@
 // Interrupt requests, as a decision (`interrupt.tests`, `interrupt.entry`), of an address that passed 18. It knows the
 // state and the flags of that device.
+#![tactic(auto)]
+
 ghost use Rattle.std.specs.Prelude.{◌≡◌, ℕ, if◌then◌else◌, slice_index};
 ghost use Rattle.model.specs.View.{Tables};
 ghost use Rattle.model.specs.Commands.{entry_word};

@@ -1,4 +1,6 @@
 // The letters of lines and of a trace's records: which call a letter names, by the values of its fields.
+#![tactic(auto)]
+
 ghost use Rattle.std.specs.Prelude.{◌≡◌};
 ghost use Rattle.letters.specs.Forms.{form_of};
 ghost use Rattle.letters.specs.Named.{named_by};
@@ -6,7 +8,7 @@ ghost use Rattle.letters.specs.Named.{named_by};
 use model::Call;
 
 // What a line or a record names.
-#[derive(Drop)]
+#[derive(Clone, Copy)]
 pub enum Parsed {
     Named(Call),
     Skipped,

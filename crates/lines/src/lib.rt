@@ -1,4 +1,6 @@
 // The reader of a session's lines: a line byte by byte, so that nothing of it is held but what it may still name.
+#![tactic(auto)]
+
 ghost use Rattle.std.specs.Prelude.{◌≡◌, false};
 ghost use Rattle.letters.specs.Forms.{form_of};
 ghost use Rattle.lines.specs.Lines.{hex_of, line_names};
@@ -7,7 +9,7 @@ ghost use Rattle.lines.specs.Automaton.{unread, skipped, letter_read, spaced, ex
 use letters::Parsed;
 
 // A line so far.
-#[derive(Drop)]
+#[derive(Clone, Copy)]
 pub struct Reading {
     // 0 before the first byte; 1, which is no letter, once the line can name no call.
     pub letter: u8,

@@ -1,5 +1,7 @@
 // Numbers of two and of four bytes, the low byte first, as traces have them (`trace.form`). It knows bytes alone.
 // Layers: the caller has to know that the place lies inside.
+#![tactic(auto)]
+
 ghost use Rattle.std.specs.Prelude.{◌≡◌, ◌+◌, ◌≤◌, ◌<◌, length};
 ghost use Rattle.little_endian.specs.Numbers.{two_at, four_at};
 

@@ -25,7 +25,7 @@ pub data Cell : Type 0 where
 -- what a register does with reads and writes
 pub data Row : Type 0 where
   absent : Row  -- no register: `map.offsets`
-  shows : (View → ℕ) → Row  -- a read gives the number, a write is refused: `map.read_only_lem`
+  shows : (View → ℕ) → Row  -- a read gives the number, a write is refused: `map.read-only`
   holds : Cell → Row
   pushes takes : Queue → Row  -- a write puts a word into the queue, a read gives 0; a read takes the first word, a write is refused
   enables acknowledges : Row  -- ENABLE; IRQ_PENDING
@@ -236,7 +236,7 @@ read (takes q) s = cond (empty (of q s.queues)) (does (shown_again q s)) (does (
 read enables s = does (unchanged s with_value word_if s.control.held 1)
 read acknowledges s = does (unchanged s with_value sources s.regs.mask s)
 
--- A write, by the register's row (`access.order`). Without a register it is 4, to one that is only read 2 (`map.read_only_lem`), to one that an
+-- A write, by the register's row (`access.order`). Without a register it is 4, to one that is only read 2 (`map.read-only`), to one that an
 -- open burst holds 6 (`burst.holds`), to a watermark 30 where it would be above the capacity (`watermark.keeps`). CMD and SDO take the
 -- word, with 5 in reset and 1 where they are full (`cmd.push`, `sdo.push`). All else is 0, whatever bits are set (`map.ignored`).
 abbrev pub write : Row → View → ℕ → Decision

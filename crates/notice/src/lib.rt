@@ -1,5 +1,7 @@
 // What a program does where its input or its output fails (`program.failure`): it counts the answers that were written
 // whole, and says on standard error what happened. It knows bytes and file descriptors.
+#![tactic(auto)]
+
 ghost use Rattle.std.specs.Prelude.{◌≡◌, ◌+◌, ◌/◌, ◌%◌, ◌^◌, ◌≤◌, ◌++◌, length, take};
 ghost use Rattle.notice.specs.Notice.{Noticed};
 

@@ -1,4 +1,5 @@
 // The numbers of answers, by the names that header, bindings and docs/ANSWERS.md have for them. 0 is done and has no name.
+#![tactic(auto)]
 
 // A word written to a full CMD or SDO was dropped.
 pub const DROPPED_FULL: u32 = 1;

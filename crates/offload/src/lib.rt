@@ -1,5 +1,7 @@
 // Every event in an open burst, as a decision: the three that run it, of `burst`, and those that it refuses
 // (`burst.events`).
+#![tactic(auto)]
+
 ghost use Rattle.std.specs.Prelude.{◌≡◌, true, false, cond, List, ℕ, length};
 ghost use Rattle.number.specs.Names as number;
 ghost use Rattle.bank.specs.Bursts.{bursting};

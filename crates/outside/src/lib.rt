@@ -1,5 +1,7 @@
 // Any call but an event in an open burst, decided on the rings of a bank: it looks up the words and flags that the
 // decision asks for, and calls the decision. It knows every decision outside a burst, and no rule of its own.
+#![tactic(auto)]
+
 ghost use Rattle.std.specs.Prelude.{◌≡◌, false, not, ◌&&◌, List, ℕ, ◌≤◌, length};
 ghost use Rattle.bank.specs.Queues.{queues_of};
 ghost use Rattle.bank.specs.Bursts.{bursting};

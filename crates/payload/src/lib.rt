@@ -1,5 +1,7 @@
 // Sends and receives outside a burst, as decisions (`send.tests`, `send.byte`, `receive.tests`, `receive.byte`). It
 // knows the state, and of SDO its first word.
+#![tactic(auto)]
+
 ghost use Rattle.std.specs.Prelude.{◌≡◌, ℕ, true};
 ghost use Rattle.bank.specs.Formed.{phase_ok};
 ghost use Rattle.model.specs.View.{Tables};

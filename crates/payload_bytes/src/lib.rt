@@ -1,5 +1,7 @@
 // What sends and receives share, in a burst and outside: the tests 5, 7, 20, 10 and 11 (`send.tests`, `receive.tests`),
 // the count of bytes moved, and the place of a byte in its word (`payload.order`).
+#![tactic(auto)]
+
 ghost use Rattle.std.specs.Prelude.{◌≡◌, ◌+◌, ◌-◌, ◌*◌, ◌%◌, ◌^◌, ◌<◌, ◌≤◌};
 ghost use Rattle.model.specs.Calls.{advanced};
 ghost use Rattle.payload_bytes.specs.Bytes.{byte_number};

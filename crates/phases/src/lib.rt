@@ -1,4 +1,6 @@
 // What a phase says of the open transfer: specs/Phases.antt in code.
+#![tactic(auto)]
+
 ghost use Rattle.std.specs.Prelude.{◌≡◌, ◌<◌};
 ghost use Rattle.bank.specs.declared.Phase.TheVariants.{Idle};
 ghost use Rattle.bank.specs.Phases.{stage, idle, writing, reading, assigning, unrequested, requested, transfer, private, broadcast, unattached, limit, part_bytes};

@@ -1,6 +1,8 @@
 // The plain engine: `step` over any call, on a bank without heads. Any bank, store, output and argument is
 // allowed, and every call ends with one answer (`answer.every`). What it gives is what the ring engine gives
 // (`plain.agrees`). `step` stands first, and what it calls behind it.
+#![tactic(auto)]
+
 ghost use Rattle.std.specs.Prelude.{◌≡◌, true, List, ℕ, length};
 ghost use Rattle.bank.specs.SetUp.{total};
 ghost use Rattle.model.specs.Engine.{step};

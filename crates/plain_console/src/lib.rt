@@ -1,6 +1,8 @@
 // A console of the plain engine: pieces of an input, the lines in them, the calls that these name, and the answers as
 // text. With `tests` the lines are those of `trial`, else those of a session (`session.lines`, `session.answers`). It
 // knows no file and no program.
+#![tactic(auto)]
+
 ghost use Rattle.std.specs.Prelude.{◌≡◌, ◌*◌, ◌≤◌, length};
 ghost use Rattle.plain_console.specs.Console.{fresh_console};
 
@@ -13,14 +15,14 @@ use trial_lines::{Line, Output};
 
 // ── What a line does ───────────────────────────────────────────────────────────────────────────────────────────
 // A bank, and the output that is lent to every call: in a session none (`burst.replay`).
-#[derive(Drop)]
+#[derive(Clone, Copy)]
 pub struct Board {
     pub bank: PlainBank,
     pub output: Output,
 }
 
 // The board after a line, and the answer that is printed, if any.
-#[derive(Drop)]
+#[derive(Clone, Copy)]
 struct Ended {
     board: Board,
     said: bool,
@@ -116,7 +118,7 @@ fn eat(line: Line, b: u8, tests: bool) -> Line {
 }
 
 // The board, and the line so far.
-#[derive(Drop)]
+#[derive(Clone, Copy)]
 pub struct Console {
     pub board: Board,
     pub line: Line,
@@ -137,7 +139,7 @@ pub fn begin() -> Console
 }
 
 // The console after a piece of the input, and how many bytes of the text are filled.
-#[derive(Drop)]
+#[derive(Clone, Copy)]
 pub struct Fed {
     pub console: Console,
     pub count: usize,

@@ -1,5 +1,7 @@
 // Any call, decided on the state, the tables and the first words of the queues: which decision is asked, call by call.
 // The decisions are those of the ring engine. It writes nothing, and where a word lies it does not know.
+#![tactic(auto)]
+
 ghost use Rattle.std.specs.Prelude.{◌≡◌, true, false, not, ◌&&◌, List, ℕ, length, get_or};
 ghost use Rattle.bank.specs.Bursts.{bursting};
 ghost use Rattle.bank.specs.Formed.{open_ok};

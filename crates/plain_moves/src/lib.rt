@@ -1,5 +1,7 @@
 // What the operations of an effect do to the words of the five queues (`plain.push`, `plain.take`, `plain.clear`), once
 // for every call. It knows no call.
+#![tactic(auto)]
+
 ghost use Rattle.std.specs.Prelude.{◌≡◌, ◌+◌, ◌≤◌, length};
 ghost use Rattle.model.specs.Decision.{take, push, push2};
 ghost use Rattle.effect.specs.Effects.{op_of, ops_of};

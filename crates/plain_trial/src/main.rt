@@ -1,10 +1,12 @@
 // A program for tests: what `trial` prints, from the plain engine (`plain.agrees`).
+#![tactic(auto)]
+
 ghost use Rattle.std.specs.Prelude.{◌≤◌, length};
 
 use plain_console::Console;
 
 // The console after a piece of the input, and whether there may be more to read.
-#[derive(Drop)]
+#[derive(Clone, Copy)]
 struct Progress {
     console: Console,
     more: bool,

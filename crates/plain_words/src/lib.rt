@@ -1,5 +1,7 @@
 // Where words lie (`plain.areas`): the area of each queue in the lent store, and the words that calls look at. It knows
 // no call.
+#![tactic(auto)]
+
 ghost use Rattle.std.specs.Prelude.{◌≡◌, ◌+◌, ◌≤◌, length, get_or};
 ghost use Rattle.model.specs.Decision.{keep_all};
 ghost use Rattle.plain_model.specs.Areas.{plain_area, plain_areas, plain_words};
@@ -11,7 +13,7 @@ use plain_model::PlainArea;
 use ring::Words;
 
 // The five queues in their areas.
-#[derive(Drop)]
+#[derive(Clone, Copy)]
 pub struct PlainAreas {
     pub cmd: PlainArea,
     pub cmdr: PlainArea,
@@ -21,7 +23,7 @@ pub struct PlainAreas {
 }
 
 // Where the areas begin in the store.
-#[derive(Drop)]
+#[derive(Clone, Copy)]
 struct Bases {
     cmd: usize,
     cmdr: usize,
@@ -85,7 +87,7 @@ fn word(store: &[u32], a: PlainArea, i: u32) -> u32
 
 // The words that calls look at: the first of each queue and, since a CCC has two words, the second of CMD; 0 where there
 // is none.
-#[derive(Drop)]
+#[derive(Clone, Copy)]
 pub struct FirstWords {
     pub cmd: u32,
     pub second: u32,

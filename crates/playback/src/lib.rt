@@ -1,5 +1,7 @@
 // Replay of a section of a trace file (`replay.calls`, `replay.tells`): by value, and on a bank that is changed where
-// it lies (`call.in_place`). Every call is lent an empty output (`burst.replay`).
+// it lies (`call.in-place`). Every call is lent an empty output (`burst.replay`).
+#![tactic(auto)]
+
 ghost use Rattle.std.specs.Prelude.{◌≡◌, []};
 ghost use Rattle.answer.specs.Given.{controller};
 ghost use Rattle.playback_model.specs.Replay.{replay_of};

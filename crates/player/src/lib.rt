@@ -1,5 +1,7 @@
 // The records of a section, played one after another (`replay.calls`). It knows records and calls, and no file. The two
 // tests of bank and store are made once, before the records: no call changes what they say (`formed.kept`).
+#![tactic(auto)]
+
 ghost use Rattle.std.specs.Prelude.{◌≡◌, ◌*◌, ◌≤◌, length};
 ghost use Rattle.answer.specs.Given.{bank_with, controller};
 ghost use Rattle.answer.specs.Memory.{memory, lent, left, controller_of};

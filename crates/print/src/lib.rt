@@ -1,4 +1,6 @@
 // An answer as text (`session.answers`): one line of twelve bytes. It knows no call.
+#![tactic(auto)]
+
 ghost use Rattle.std.specs.Prelude.{◌≡◌, ◌++◌, ◌+◌, ◌/◌, ◌%◌, ◌<◌, ◌≤◌, length, take};
 ghost use Rattle.print.specs.Line.{glyph, line_of};
 

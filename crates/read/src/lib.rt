@@ -1,5 +1,7 @@
 // Register reads, as decisions: which register goes to which row of `read_rows`. `word` is the first of the queue that
 // the register takes from: see `taken_by`.
+#![tactic(auto)]
+
 ghost use Rattle.std.specs.Prelude.{◌≡◌, List, ℕ};
 ghost use Rattle.model.specs.View.{tables};
 ghost use Rattle.model.specs.Registers.{row, read};

@@ -1,5 +1,7 @@
 // Register reads, row by row: one that shows a word, and the three that take one. Each of these knows its own register.
 // `word` is the first of the queue that the register takes from.
+#![tactic(auto)]
+
 ghost use Rattle.std.specs.Prelude.{◌≡◌};
 ghost use Rattle.number.specs.Names as number;
 ghost use Rattle.registers.specs.declared.Register.TheVariants.{CmdrFifo, SdiFifo, IbiFifo};

@@ -1,4 +1,6 @@
 // Records of a trace (`trace.record`, `trace.wrong`): which call one names, its bytes, and how many some bytes have.
+#![tactic(auto)]
+
 ghost use Rattle.std.specs.Prelude.{◌≡◌, cond, ◌+◌, ◌*◌, ◌<◌, ◌≤◌, length};
 ghost use Rattle.letters.specs.declared.Parsed.TheVariants.{Named, Skipped};
 ghost use Rattle.letters.specs.Forms.{form_of};

@@ -1,11 +1,13 @@
 // The register map (`map.offsets`): which register stands at an offset. Reads and writes share it; it knows nothing of
 // what a register does.
+#![tactic(auto)]
+
 ghost use Rattle.std.specs.Prelude.{◌≡◌};
 ghost use Rattle.registers.specs.Map.{register_at};
 
 // The registers, by 001's names. An offload register has its place in its memory, 0 to 15; a watermark the number of its
 // queue, 0 to 4 (`watermark.keeps`).
-#[derive(Drop)]
+#[derive(Clone, Copy)]
 pub enum Register {
     Version,
     Id,
@@ -36,6 +38,7 @@ pub enum Register {
 }
 
 // The register at an offset.
+#[tactic(auto, unfolding(crate::specs::Map::named, crate::specs::Map::entry_at, crate::specs::Map::offload))]
 pub fn register_at(offset: u16) -> Register
     ensures { result ≡ register_at offset }
 {

@@ -1,6 +1,8 @@
 // The program `replay` (`replay.program`, `replay.ends`, `replay.length`): a trace from standard input on the session's
 // bank, and lines to standard output, in pieces, with buffers of 64 KiB at most. Where input or output fails, it says
 // so on standard error (`program.failure`); what could not be read counts as not there.
+#![tactic(auto)]
+
 ghost use Rattle.std.specs.Prelude.{◌≡◌, ◌≤◌, ◌<◌, length};
 
 use bank::Bank;
@@ -8,7 +10,7 @@ use stream_model::Stage;
 
 // The bank, what is to come, and how many bytes at the front of the buffer were not used; how many answers were
 // written; whether there may be more to read; whether the input could be read, and all output be written.
-#[derive(Drop)]
+#[derive(Clone, Copy)]
 struct Progress {
     bank: Bank,
     stage: Stage,
@@ -20,7 +22,7 @@ struct Progress {
 }
 
 // How many bytes there are behind a read; whether it failed.
-#[derive(Drop)]
+#[derive(Clone, Copy)]
 struct Filled {
     have: usize,
     failed: bool,

@@ -1,5 +1,7 @@
 // What the code of a replay gives: what it tells (`replay.tells`), with the state or the bank that it left; and the two
 // ways in which it ends early, at a wrong record and refused as a whole. It knows no record and makes no call.
+#![tactic(auto)]
+
 ghost use Rattle.std.specs.Prelude.{◌≡◌, List, [], ℕ};
 ghost use Rattle.model.specs.View.{Tables, tables};
 ghost use Rattle.answer.specs.Given.{bank_with, controller};
@@ -10,14 +12,14 @@ use bank::{Answer, Bank, Heads, State};
 use playback_model::Report;
 
 // The bank after a replay.
-#[derive(Drop)]
+#[derive(Clone, Copy)]
 pub struct Replayed {
     pub bank: Bank,
     pub told: Report,
 }
 
 // The state after some records; the tables stay where they are.
-#[derive(Drop)]
+#[derive(Clone, Copy)]
 pub struct Reached {
     pub state: State,
     pub heads: Heads,

@@ -1,15 +1,17 @@
 // Counts of bytes and of words, and a ring of 32-bit words in an area of a lent store, for any capacity from 1 on. It
 // knows places and a store, and not what a queue is for. A layer: the calls above it test what it asks of its caller.
+#![tactic(auto)]
+
 ghost use Rattle.std.specs.Prelude.{◌≡◌, ◌+◌, ◌<◌, ◌≤◌, length, get_or, set};
 ghost use Rattle.ring.specs.Units.{words_for};
 ghost use Rattle.ring.specs.Ring.{Valid, place_of, pushed_of, taken_of, cleared_of, entries};
 
 // A number of payload bytes (`units.apart`).
-#[derive(Drop)]
+#[derive(Clone, Copy)]
 pub struct Bytes(pub u32);
 
 // A number of words in a queue (`units.apart`).
-#[derive(Drop)]
+#[derive(Clone, Copy)]
 pub struct Words(pub u32);
 
 // The words that hold `b` bytes.
@@ -20,7 +22,7 @@ pub fn words_for(b: Bytes) -> Words
 }
 
 // A queue: its capacity, the place of its first entry within its area, and how many entries it has.
-#[derive(Drop)]
+#[derive(Clone, Copy)]
 pub struct Ring {
     pub cap: Words,
     pub head: u32,

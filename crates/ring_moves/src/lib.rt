@@ -1,5 +1,7 @@
 // What the operations of an effect do to the five rings of a lent store (`ring.push`, `ring.take`, `ring.clear`), once
 // for every call.
+#![tactic(auto)]
+
 ghost use Rattle.std.specs.Prelude.{◌≡◌, ◌+◌, ◌≤◌, length};
 ghost use Rattle.ring.specs.Ring.{Valid};
 ghost use Rattle.bank.specs.Queues.{queues_of};
@@ -15,7 +17,7 @@ use effect::{Op, Ops};
 use ring::{Ring, Words};
 
 // Levels and heads after the operations on all five queues.
-#[derive(Drop)]
+#[derive(Clone, Copy)]
 pub struct Moved {
     pub levels: Counts,
     pub heads: Heads,

@@ -1,5 +1,7 @@
 // What the rings of a bank show: where the area of each queue begins in the lent store (`store.order`), and the first
 // words of the queues. Of calls it knows only which register takes from which queue.
+#![tactic(auto)]
+
 ghost use Rattle.std.specs.Prelude.{◌≡◌, ◌+◌, get_or};
 ghost use Rattle.bank.specs.Queues.{ring, queues_of};
 ghost use Rattle.bank.specs.Ready.{Ready};

@@ -1,6 +1,8 @@
 // A program that samples a sensor by offload bursts, on the interface: a thousand bursts of three reads of two bytes,
 // one line of a CSV table for each. It is the sensor too, with made-up waves. The last line says whether every answer
 // had the number 0.
+#![tactic(auto)]
+
 ghost use Rattle.std.specs.Prelude.{◌+◌, ◌≤◌, length};
 
 use bank::Bank;
@@ -34,7 +36,7 @@ const REFUSED: u8 = 6;
 const SAMPLES: u32 = 1000;
 
 // A bank, its store, the words of the last burst, and whether every answer so far had the number 0.
-#[derive(Drop)]
+#[derive(Clone, Copy)]
 struct Board {
     bank: Bank,
     store: [u32; 20],

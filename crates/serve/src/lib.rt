@@ -1,6 +1,8 @@
 // Any call on a state, its heads and its lent tables: decided, then settled. A layer beneath the interface and beneath
 // replays. It is given the number of the two tests: no call changes what they say (`formed.kept`), so a list of calls
 // makes them once.
+#![tactic(auto)]
+
 ghost use Rattle.std.specs.Prelude.{◌≡◌, length};
 ghost use Rattle.model.specs.Bursts.{decide};
 ghost use Rattle.model.specs.Engine.{step};

@@ -1,6 +1,8 @@
 // The program `session` (`session.lines`, `session.answers`): lines from standard input, the answers of the calls that
 // they name to standard output, on the session's bank. It reads and writes in pieces, holds no line, and lends every
 // call an empty output (`burst.replay`). Where input or output fails, it says so on standard error (`program.failure`).
+#![tactic(auto)]
+
 ghost use Rattle.std.specs.Prelude.{◌≤◌, length};
 
 use bank::Bank;
@@ -8,7 +10,7 @@ use lines::Reading;
 
 // The bank and the line so far; how many answers were written; whether there may be more to read; whether the input
 // could be read, and all output be written.
-#[derive(Drop)]
+#[derive(Clone, Copy)]
 struct Progress {
     bank: Bank,
     line: Reading,

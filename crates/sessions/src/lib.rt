@@ -1,6 +1,8 @@
 // A session (`session.lines`, `session.answers`): bytes in pieces of any length, the lines in them, the calls that
 // these name, and the answers as text. It knows no file and no program. `output` is what is lent to every call, `out`
 // takes the text.
+#![tactic(auto)]
+
 ghost use Rattle.std.specs.Prelude.{◌≡◌, List, [], ℕ, ◌+◌, ◌*◌, ◌≤◌, length, take};
 ghost use Rattle.answer.specs.Given.{controller};
 ghost use Rattle.answer.specs.Memory.{bank_lent};
@@ -14,7 +16,7 @@ use lines::Reading;
 use model::Call;
 
 // The bank after a line, and the line printed, if any.
-#[derive(Drop)]
+#[derive(Clone, Copy)]
 pub struct Ran {
     pub bank: Bank,
     pub said: bool,
@@ -57,7 +59,7 @@ pub fn run(b: Bank, store: &mut [u32], output: &mut [u32], line: Reading) -> Ran
 }
 
 // The bank after the end of a line, and how many bytes of the text are filled.
-#[derive(Drop)]
+#[derive(Clone, Copy)]
 pub struct Ended {
     pub bank: Bank,
     pub count: usize,
@@ -93,7 +95,7 @@ pub fn end_line(
 }
 
 // The bank and the line so far after a piece of the input, and how many bytes of the text are filled.
-#[derive(Drop)]
+#[derive(Clone, Copy)]
 pub struct SessionTurn {
     pub bank: Bank,
     pub line: Reading,

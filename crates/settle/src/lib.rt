@@ -1,5 +1,7 @@
 // An effect settled in rings in a lent store and in lent tables, once for every call. It knows effects, and not which
 // call gave one.
+#![tactic(auto)]
+
 ghost use Rattle.std.specs.Prelude.{◌≡◌};
 ghost use Rattle.bank.specs.Queues.{queues_of};
 ghost use Rattle.bank.specs.Ready.{Ready};

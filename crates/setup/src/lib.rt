@@ -1,5 +1,7 @@
 // Set-up (`set-up.numbers`, `set-up.fresh`, `set-up.refused`): the bank and the answer for five capacities, five
 // watermarks and an ID; the bank of a session. It knows no call.
+#![tactic(auto)]
+
 ghost use Rattle.std.specs.Prelude.{◌≡◌};
 ghost use Rattle.bank.specs.SetUp.{counts_of, sizes_ok, zeros, no_heads, bank_of, refused_set_up, set_up};
 

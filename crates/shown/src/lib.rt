@@ -1,4 +1,6 @@
 // What registers show, as words: sources, status, OPS, DEV_CHAR. Numbers and bits put together; no read by itself.
+#![tactic(auto)]
+
 ghost use Rattle.std.specs.Prelude.{◌≡◌, ◌&&◌, ◌+◌, ◌*◌, ◌^◌, ◌<◌, ◌≤◌, eqb, get_or};
 ghost use Rattle.bank.specs.Bits.{bit, word_if};
 ghost use Rattle.model.specs.View.{Tables};

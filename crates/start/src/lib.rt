@@ -1,5 +1,7 @@
 // The start of a transfer, as a decision (`start.tests`, `start.opens`), and the transfer that a command opens, which
 // bursts use too. It knows command words, the state, and the flags of one device.
+#![tactic(auto)]
+
 ghost use Rattle.std.specs.Prelude.{◌≡◌, ◌||◌};
 ghost use Rattle.bank.specs.Phases.{broadcast};
 ghost use Rattle.bank.specs.Bits.{bit};

@@ -1,5 +1,7 @@
 // Replay of a trace that comes in pieces (`replay.program`): bytes in, a line for each record out. It knows pieces and
 // what is still to come, and no program. `out` takes the text; its bytes past the text are left free.
+#![tactic(auto)]
+
 ghost use Rattle.std.specs.Prelude.{◌≡◌, ◌+◌, ◌≤◌, length};
 ghost use Rattle.answer.specs.Memory.{bank_lent_store};
 ghost use Rattle.trace_model.specs.Head.{head_of};

@@ -1,5 +1,7 @@
 // How the replay of a trace that comes in pieces ends (`replay.ends`): with a number of its own, or with its input. It
 // knows what is still to come, and no record. `out` takes the text; its bytes past the text are left free.
+#![tactic(auto)]
+
 ghost use Rattle.std.specs.Prelude.{◌≡◌, List, [], ◌++◌, ℕ, ◌+◌, ◌≤◌, length, take};
 ghost use Rattle.answer.specs.Given.{controller};
 ghost use Rattle.print.specs.Line.{line_of};
@@ -11,7 +13,7 @@ use bank::{Answer, Bank};
 use stream_model::Stage;
 
 // The bank after a piece, what is to come, how many of its bytes were used, and how many bytes of the text are filled.
-#[derive(Drop)]
+#[derive(Clone, Copy)]
 pub struct StreamTurn {
     pub bank: Bank,
     pub stage: Stage,

@@ -1,6 +1,8 @@
 // Records of a trace, each called and its line printed (`replay.program`). It knows no file and no piece. The two tests
 // of bank and store are made once, before the records (`formed.kept`), and every call is lent an empty output
 // (`burst.replay`). `out` takes the text; its bytes past the text are left free.
+#![tactic(auto)]
+
 ghost use Rattle.std.specs.Prelude.{◌≡◌, List, [], ℕ, ◌*◌, ◌≤◌, length};
 ghost use Rattle.model.specs.View.{tables};
 ghost use Rattle.answer.specs.Given.{bank_with, controller};
@@ -13,7 +15,7 @@ use bank::{Bank, Heads, State};
 use letters::Parsed;
 
 // The state and the heads after some records, whether a wrong one was met, and how many bytes of the text are filled.
-#[derive(Drop)]
+#[derive(Clone, Copy)]
 struct Lines {
     state: State,
     heads: Heads,
@@ -22,7 +24,7 @@ struct Lines {
 }
 
 // The same with a bank.
-#[derive(Drop)]
+#[derive(Clone, Copy)]
 pub struct Shown {
     pub bank: Bank,
     pub wrong: bool,

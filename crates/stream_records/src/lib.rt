@@ -1,6 +1,8 @@
 // The whole records of a piece of a trace: their lines, and what is still to come, or the number at which the replay
 // ends (`replay.ends`). It knows how many records are due, and no table. `out` takes the text; its bytes past the text
 // are left free.
+#![tactic(auto)]
+
 ghost use Rattle.std.specs.Prelude.{◌≡◌, ◌+◌, ◌≤◌, length};
 ghost use Rattle.answer.specs.Memory.{bank_lent_store};
 ghost use Rattle.stream_model.specs.Stream.{records_of};

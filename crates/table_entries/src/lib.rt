@@ -1,4 +1,6 @@
 // One entry of a lent table, or of the lent output, gets another value.
+#![tactic(auto)]
+
 ghost use Rattle.std.specs.Prelude.{◌≡◌, set};
 ghost use Rattle.model.specs.View.{tables};
 ghost use Rattle.effect.specs.Effects.{tables_by};

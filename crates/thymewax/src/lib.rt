@@ -2,6 +2,8 @@
 // memory. A host keeps a short image of the state and lends the tables where they lie. The image is a slice, whose length
 // is tested, since another version may have another; the tables are arrays, a pointer in C: 128 addresses and 16 words are
 // the controller's, and what no call tests at run time costs none. Every call takes any input.
+#![tactic(auto)]
+
 ghost use Rattle.std.specs.Prelude.{◌≡◌};
 ghost use Rattle.image_model.specs.Image.{size};
 ghost use Rattle.host_model.specs.Host.{version, set_up_in, call_of, section_in};

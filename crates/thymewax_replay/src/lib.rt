@@ -1,5 +1,7 @@
 // The archive for hosts: its replay. A crate of its own, and so a module of its own for the compiler: the calls then have
 // one caller in each, and are inlined in the replay's loop as in the step.
+#![tactic(auto)]
+
 ghost use Rattle.std.specs.Prelude.{◌≡◌};
 ghost use Rattle.host_parts.specs.Lent.{lent_all, left_all, gave, replay_on};
 

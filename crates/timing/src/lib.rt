@@ -1,4 +1,6 @@
 // What `timing_list` and `timing_each` share: the bank that they set up, and where the last answer goes.
+#![tactic(auto)]
+
 ghost use Rattle.std.specs.Prelude.{◌≡◌, ◌-◌};
 ghost use Rattle.timing.specs.Timing.{fresh_of, kept_in};
 

@@ -1,5 +1,7 @@
 // What the benchmark of bench/ times, exported: a section of a trace by a call in place for each record. The bank is a
 // local of the exported function, which can take no reference that leads to an enum.
+#![tactic(auto)]
+
 ghost use Rattle.std.specs.Prelude.{◌≡◌, [], ◌*◌, ◌≤◌, length};
 ghost use Rattle.model.specs.Engine.{step};
 ghost use Rattle.model.specs.Rings.{rings};

@@ -1,6 +1,8 @@
 // What the benchmark of bench/ times, exported: a section of a trace by one call in place. The bank is a local of the
 // exported function, which can take no reference that leads to an enum. A crate of its own, so that the loop is the
 // only caller of the step and has it inlined.
+#![tactic(auto)]
+
 ghost use Rattle.std.specs.Prelude.{◌≡◌, []};
 ghost use Rattle.answer.specs.Given.{controller};
 ghost use Rattle.playback_model.specs.Replay.{replay_of};

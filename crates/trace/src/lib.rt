@@ -1,5 +1,7 @@
 // Trace files: the look-up of a section, as a part of the lent bytes (`trace.section`, `trace.refused`), and what the
 // first bytes tell a reader that has no more yet. It knows no record.
+#![tactic(auto)]
+
 ghost use Rattle.std.specs.Prelude.{◌≡◌, ◌+◌, ◌*◌, ◌≤◌, length};
 ghost use Rattle.trace_model.specs.Format.{sections, look_number, section_start, section};
 ghost use Rattle.trace_model.specs.Head.{table_told, count_told, head_of};

@@ -1,5 +1,7 @@
 // Mark and table of a trace file (`trace.form`): whether they are right, and what an entry says. It knows the file's
 // bytes, and no record. Layers: the caller has to know that an entry lies inside the file.
+#![tactic(auto)]
+
 ghost use Rattle.std.specs.Prelude.{◌≡◌, ◌+◌, ◌*◌, ◌<◌, ◌≤◌, length};
 ghost use Rattle.trace_model.specs.Format.{mark, begins_with, sections, start_at, count_at, section_place, starts_right, table_right, fault};
 
@@ -38,7 +40,7 @@ pub fn past(start: u64, records: u32) -> u64
 }
 
 // Whether the starts of a table are right, and where its last section ends.
-#[derive(Drop)]
+#[derive(Clone, Copy)]
 pub struct Walked {
     pub right: bool,
     pub end: u64,

@@ -1,5 +1,7 @@
 // A program for tests: a session (`session.lines`) with lines that set up another bank and lines of offload bursts, so
 // that the model is run at every capacity and watermark, on stores with old contents, and with outputs of every length.
+#![tactic(auto)]
+
 ghost use Rattle.std.specs.Prelude.{◌+◌, ◌*◌, ◌≤◌, length};
 
 use answer::Out;
@@ -25,7 +27,7 @@ const SHOW: u8 = b'P';
 const DEAD: u8 = 1;
 
 // A line so far.
-#[derive(Drop)]
+#[derive(Clone, Copy)]
 struct Line {
     // The letter and the field that is being read, as `lines` reads those of a call.
     reading: Reading,
@@ -115,7 +117,7 @@ fn named(line: Line) -> u8 {
 
 // ── What a line does ───────────────────────────────────────────────────────────────────────────────────────────
 // A bank, the words of the output, and how many of them are lent to every call.
-#[derive(Drop)]
+#[derive(Clone, Copy)]
 struct Board {
     bank: Bank,
     words: [u32; 16],
@@ -123,7 +125,7 @@ struct Board {
 }
 
 // The board after a line, and the answer that is printed, if any.
-#[derive(Drop)]
+#[derive(Clone, Copy)]
 struct Ended {
     board: Board,
     said: bool,
@@ -266,7 +268,7 @@ fn put(said: bool, a: Answer, out: &mut [u8], at: usize) -> usize
 }
 
 // The board and the line so far, and how many bytes of the text are filled.
-#[derive(Drop)]
+#[derive(Clone, Copy)]
 struct Pieces {
     board: Board,
     line: Line,
@@ -300,7 +302,7 @@ fn feed(board: Board, store: &mut [u32], line: Line, piece: &[u8], out: &mut [u8
 }
 
 // The board and the line so far; whether there may be more to read; whether all text was written.
-#[derive(Drop)]
+#[derive(Clone, Copy)]
 struct Progress {
     board: Board,
     line: Line,

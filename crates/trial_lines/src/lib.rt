@@ -1,5 +1,7 @@
 // Lines of the test programs: those of a session (`session.lines`), and lines that set up another bank, trigger a burst,
 // lend an output and show it; the output that they lend, and the text of an answer. It knows no engine.
+#![tactic(auto)]
+
 ghost use Rattle.std.specs.Prelude.{◌≡◌, true, ◌+◌, ◌≤◌, length};
 ghost use Rattle.lines.specs.Automaton.{reading_with};
 ghost use Rattle.trial_lines.specs.TestLines.{no_line, test_letter, test_letter_read, next_field, eat_test, letter_named, five_from, lent_test, word_shown};
@@ -23,7 +25,7 @@ pub const SHOW: u8 = b'P';
 const DEAD: u8 = 1;
 
 // A line so far.
-#[derive(Drop)]
+#[derive(Clone, Copy)]
 pub struct Line {
     // The letter and the field that is being read, as `lines` reads those of a call.
     pub reading: Reading,
@@ -164,7 +166,7 @@ pub fn marks(line: Line) -> Sizes
 
 // ── The output, and text ───────────────────────────────────────────────────────────────────────────────────────
 // The words of the output, and how many of them are lent to every call.
-#[derive(Drop)]
+#[derive(Clone, Copy)]
 pub struct Output {
     pub words: [u32; 16],
     pub lent: usize,

@@ -1,5 +1,7 @@
 // The trigger of an offload burst, as a decision (`trigger.tests`, `trigger.opens`), and what the events of a burst
 // share with it: the test of the output, and where a burst stands. It knows the state and the tables.
+#![tactic(auto)]
+
 ghost use Rattle.std.specs.Prelude.{◌≡◌, List, ℕ, ltb, length};
 ghost use Rattle.bank.specs.Bursts.{span, reads_in};
 ghost use Rattle.model.specs.Bursts.{burst_at, trigger};

@@ -1,5 +1,7 @@
 // Watermarks as registers (`watermark.keeps`): the number of one queue among five, and a write to a watermark, as a
 // decision. A queue is told by its number, in the order of `store.order`.
+#![tactic(auto)]
+
 ghost use Rattle.std.specs.Prelude.{◌≡◌};
 ghost use Rattle.registers.specs.declared.Register.TheVariants.{Watermark};
 ghost use Rattle.model.specs.View.{Tables};

@@ -1,6 +1,8 @@
 // A program that runs worked examples on the interface: 01's session, 004's payload words, and address words with both
 // parity bits for all 128 addresses. It prints answers, one a line: all those of the session, then of each example
 // those that it is about. Every call is lent an empty output: there is no burst.
+#![tactic(auto)]
+
 ghost use Rattle.std.specs.Prelude.{◌<◌};
 
 use bank::Bank;
@@ -22,7 +24,7 @@ const DEV_CHAR: u16 = 0x180;
 const DEVICE: u32 = 0x1102;
 
 // A bank with its store.
-#[derive(Drop)]
+#[derive(Clone, Copy)]
 struct Board {
     bank: Bank,
     store: [u32; 20],

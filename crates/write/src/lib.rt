@@ -1,5 +1,7 @@
 // Register writes, as decisions: which register goes to which write of `write_cells` and `write_control`, and which are
 // refused.
+#![tactic(auto)]
+
 ghost use Rattle.std.specs.Prelude.{◌≡◌};
 ghost use Rattle.model.specs.View.{Tables};
 ghost use Rattle.model.specs.Registers.{row, write};
@@ -10,7 +12,7 @@ use bank::State;
 use effect::{Effect, refuse};
 use registers::Register;
 
-// A write to a register: 4 where there is none (`map.offsets`), 2 where it is read-only (`map.read_only_lem`).
+// A write to a register: 4 where there is none (`map.offsets`), 2 where it is read-only (`map.read-only`).
 pub fn write(r: Register, st: State, x: u32) -> Effect
     ensures { (t : Tables) (f : Fronts) → effect_of result t ≡ verdict (λ v. write (row r) v x) (seen st t f) }
 {

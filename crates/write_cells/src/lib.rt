@@ -1,5 +1,7 @@
 // Register writes that keep a value, as decisions, in the bits that the map names (`map.bits`). Each knows its own
 // register, and whether an open burst holds it.
+#![tactic(auto)]
+
 ghost use Rattle.std.specs.Prelude.{◌≡◌, cond, ◌%◌, ◌^◌, eqb};
 ghost use Rattle.registers.specs.declared.Register.TheVariants.{Scratch, IrqMask, Ops, IbiConfig, DevChar, OffloadCmd, OffloadSdo};
 ghost use Rattle.bank.specs.Bits.{word_if};

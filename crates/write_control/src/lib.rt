@@ -1,5 +1,7 @@
 // Register writes that move queues or control bits, as decisions: ENABLE, IRQ_PENDING, CMD and SDO. Each knows its own
 // register.
+#![tactic(auto)]
+
 ghost use Rattle.std.specs.Prelude.{◌≡◌, true, false};
 ghost use Rattle.registers.specs.declared.Register.TheVariants.{Enable, IrqPending, CmdFifo, SdoFifo};
 ghost use Rattle.model.specs.View.{Tables};

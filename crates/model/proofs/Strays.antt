@@ -117,6 +117,8 @@ uncounted : (e : RunEvent) → Stray e → (t : Tally) → t.now ≡ none → t 
 uncounted sent x t n = λ i. record { words = t.words; past = t.past; now = (n ∙ ap (change (count_run sent)) (sym n)) i; receipts = t.receipts }
 uncounted received x t n = λ i. record { words = t.words; past = t.past; now = (n ∙ ap (change (count_run received)) (sym n)) i; receipts = t.receipts }
 uncounted (finished code v) x t n = λ i. record { words = t.words; past = (sym (append-nil t.past) ∙ ap (λ (o : Option Run). t.past ++ opt (change (count_run (finished code v)) o)) (sym n)) i; now = n i; receipts = t.receipts }
+uncounted (started _) x t n = elim x [ ]
+uncounted addressed x t n = elim x [ ]
 
 idle_in : (c : Control) (p : Phase) → bursting c ≡ true → idle (direct_phase c p) ≡ true
 idle_in c p e = rw e

@@ -1,9 +1,9 @@
 -- One byte moved to the front, among bytes of which those before it were moved and the others are as they were.
-use Prim.Native.Nat.{ℕ, suc, ◌+◌, ◌-◌, ◌≤◌, ◌<◌}
+use Prim.Native.Nat.{ℕ, suc, ◌+◌, ◌<◌}
 use native.Mathlib.Omega.{arith}
-use mathlib.Core.Path.{◌≡◌, refl, ap, sym, ◌∙◌}
+use mathlib.Core.Path.{◌≡◌, ap, sym, ◌∙◌}
 use mathlib.Core.List.{List, [], ◌∷◌, ◌++◌}
-use lib.ListN.{length, get_or, set, take, drop, length-set, length-drop}
+use lib.ListN.{length, get_or, set, take, drop, length-drop}
 use lib.Seq.{take-suc, take-suc-set, drop-set-lt, drop-drop, get_or-drop}
 
 module _ (old : List ℕ) (used k : ℕ) (buf : List ℕ) (same : length buf ≡ length old) (done : take k buf ≡ take k (drop used old)) (rest : drop k buf ≡ drop k old) (inside : used + k < length old) where
@@ -31,4 +31,3 @@ module _ (old : List ℕ) (used k : ℕ) (buf : List ℕ) (same : length buf ≡
   rest_next =
       drop-set-lt (k + 1) buf k (get_or buf (used + k) 0) (omega arith)
       ∙ sym (drop-drop 1 k buf) ∙ ap (drop 1) rest ∙ drop-drop 1 k old
-

@@ -77,6 +77,7 @@ pub fn while_idle(held: bool, idle: bool, n: u32) -> u32
 // ── Operations ─────────────────────────────────────────────────────────────────────────────────────────────────
 
 // No operation on any queue.
+#[tactic(auto, unfolding(crate::specs::Effects::ops_of, crate::specs::Effects::five_of))]
 pub fn none() -> Ops
     ensures { ops_of result ≡ keep_all }
 {
@@ -91,6 +92,7 @@ pub fn none() -> Ops
 }
 
 // All queues cleared, by a reset (`enable.reset`).
+#[tactic(auto, unfolding(crate::specs::Effects::ops_of, crate::specs::Effects::five_of))]
 pub fn clear_all() -> Ops
     ensures { ops_of result ≡ each clear clear clear clear clear }
 {
@@ -105,6 +107,7 @@ pub fn clear_all() -> Ops
 }
 
 // One operation on one queue, where `comes` holds; else none.
+#[tactic(auto, using(crate::proofs::Laws::cmd_flagged), unfolding(crate::specs::Effects::ops_of, crate::specs::Effects::five_of))]
 pub fn on_cmd(comes: bool, o: Op) -> Ops
     ensures { ops_of result ≡ each (cond comes (op_of o) keep) keep keep keep keep }
 {
@@ -118,6 +121,7 @@ pub fn on_cmd(comes: bool, o: Op) -> Ops
     }
 }
 
+#[tactic(auto, using(crate::proofs::Laws::cmdr_flagged), unfolding(crate::specs::Effects::ops_of, crate::specs::Effects::five_of))]
 pub fn on_cmdr(comes: bool, o: Op) -> Ops
     ensures { ops_of result ≡ each keep (cond comes (op_of o) keep) keep keep keep }
 {
@@ -131,6 +135,7 @@ pub fn on_cmdr(comes: bool, o: Op) -> Ops
     }
 }
 
+#[tactic(auto, using(crate::proofs::Laws::sdo_flagged), unfolding(crate::specs::Effects::ops_of, crate::specs::Effects::five_of))]
 pub fn on_sdo(comes: bool, o: Op) -> Ops
     ensures { ops_of result ≡ each keep keep (cond comes (op_of o) keep) keep keep }
 {
@@ -144,6 +149,7 @@ pub fn on_sdo(comes: bool, o: Op) -> Ops
     }
 }
 
+#[tactic(auto, using(crate::proofs::Laws::sdi_flagged), unfolding(crate::specs::Effects::ops_of, crate::specs::Effects::five_of))]
 pub fn on_sdi(comes: bool, o: Op) -> Ops
     ensures { ops_of result ≡ each keep keep keep (cond comes (op_of o) keep) keep }
 {
@@ -157,6 +163,7 @@ pub fn on_sdi(comes: bool, o: Op) -> Ops
     }
 }
 
+#[tactic(auto, using(crate::proofs::Laws::ibi_flagged), unfolding(crate::specs::Effects::ops_of, crate::specs::Effects::five_of))]
 pub fn on_ibi(comes: bool, o: Op) -> Ops
     ensures { ops_of result ≡ each keep keep keep keep (cond comes (op_of o) keep) }
 {
@@ -190,6 +197,7 @@ fn take_if(comes: bool, n: u32) -> Op
 
 // A receipt to CMDR; where `removes` holds, `n` words out of SDO (`finish.removal`); where `comes` holds, the part word
 // of a read to SDI (`finish.receipt`).
+#[tactic(auto, unfolding(crate::specs::Effects::ops_of, crate::specs::Effects::five_of))]
 pub fn receipt_and(receipt: u32, removes: bool, n: u32, comes: bool, w: u32) -> Ops
     ensures { ops_of result ≡ each keep (push receipt) (cond removes (take n) keep) (cond comes (push w) keep) keep }
 {
@@ -206,6 +214,7 @@ pub fn receipt_and(receipt: u32, removes: bool, n: u32, comes: bool, w: u32) -> 
 }
 
 // One entry of a table, where `comes` holds; else none.
+#[tactic(auto, unfolding(crate::specs::Effects::tables_by))]
 pub fn table_if(comes: bool, t: Table) -> Table
     ensures { (x : Tables) → tables_by result x ≡ cond comes (tables_by t x) x }
 {
@@ -244,6 +253,7 @@ pub fn done_with(
 }
 
 // An effect that leaves the tables.
+#[tactic(auto, unfolding(crate::specs::Effects::tables_by))]
 pub fn done(st: State, value: u32, number: u32, g: Regs, c: Control, p: Phase, o: Ops) -> Effect
     ensures { (x : Tables) → effect_of result x ≡ record { value = value; number = number; regs = g; control = c; phase = p; tables = x; ops = ops_of o } }
 {

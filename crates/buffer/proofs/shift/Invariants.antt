@@ -1,5 +1,5 @@
 -- The bytes before k are moved, and those from k on are as they were.
-use Rattle.std.proofs.Common.{◌≡◌, ◌+◌, ◌≤◌, length, take, drop}
+use Rattle.std.proofs.Common.{◌≡◌, take, drop}
 use Rattle.buffer.proofs.shift.Given as goal
 
 abbrev pub invariant-loop-k : goal.invariant-loop-k

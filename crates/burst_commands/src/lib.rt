@@ -29,6 +29,7 @@ fn is_carried(w: u32) -> bool
 }
 
 // Whether a burst can run each of the first `n` commands.
+#[tactic(auto, unfolding(bank::specs::Bursts::all_carried))]
 pub fn all_carried(commands: &[u32; 16], n: usize) -> bool
     requires { n ≤ 16 }
     ensures { result ≡ all_carried n commands.now }
@@ -42,6 +43,7 @@ pub fn all_carried(commands: &[u32; 16], n: usize) -> bool
 }
 
 // How many of the first `n` commands are reads.
+#[tactic(auto, unfolding(bank::specs::Bursts::reads_in))]
 pub fn reads_in(commands: &[u32; 16], n: usize) -> usize
     requires { n ≤ 16 }
     ensures { (result ≡ reads_in n commands.now) × (result ≤ n) }

@@ -7,6 +7,7 @@ ghost use Rattle.bank.specs.Formed.{open_ok, well_formed};
 use bank::{Bank, Control, Heads, Phase, Regs, State};
 
 // Whether what is open, a burst or a transfer alone, is well formed. Without a burst no command is looked at.
+#[tactic(auto, unfolding(bank::specs::Formed::open_ok))]
 fn open_ok(c: Control, g: Regs, p: Phase, commands: &[u32; 16]) -> bool
     ensures { result ≡ open_ok c g p commands.now }
 {
@@ -18,6 +19,7 @@ fn open_ok(c: Control, g: Regs, p: Phase, commands: &[u32; 16]) -> bool
 
 // Whether a bank is well formed, by its parts, with the tables where they lie; the payload words are not looked at. A
 // branch for each part: the tests of a part then compile to compares and jumps, and the flags are scanned last.
+#[tactic(auto, unfolding(bank::specs::Formed::well_formed))]
 pub fn parts_formed(s: State, h: Heads, flags: &[u8; 128], commands: &[u32; 16]) -> bool
     ensures { (ps : List ℕ) → result ≡ well_formed (record { state = s; heads = h; flags = flags.now; commands = commands.now; payloads = ps }) }
 {

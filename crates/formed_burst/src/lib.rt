@@ -19,6 +19,7 @@ fn place_of(c: Control) -> usize
 }
 
 // Whether an open burst is well formed.
+#[tactic(auto, unfolding(bank::specs::Formed::burst_ok))]
 pub fn burst_ok(c: Control, g: Regs, p: Phase, commands: &[u32; 16]) -> bool
     ensures { result ≡ burst_ok c g p commands.now }
 {

@@ -17,6 +17,7 @@ fn ring_ok(least: u32, cap: Words, head: u32, level: Words) -> bool
 }
 
 // Whether those of all five are in range.
+#[tactic(auto, unfolding(bank::specs::Formed::queues_ok))]
 pub fn queues_ok(k: Counts, l: Counts, h: Heads) -> bool
     ensures { result ≡ queues_ok (queues_of k l h) }
 {
@@ -28,6 +29,7 @@ pub fn queues_ok(k: Counts, l: Counts, h: Heads) -> bool
 }
 
 // Whether OPS, IBI_CONFIG and the selected address are in range (`formed.fields`).
+#[tactic(auto, unfolding(bank::specs::Formed::regs_ok))]
 pub fn regs_ok(g: Regs) -> bool
     ensures { result ≡ regs_ok g }
 {

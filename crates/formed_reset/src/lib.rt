@@ -10,6 +10,7 @@ ghost use Rattle.bank.specs.Formed.{queues_clear, control_clear, reset_ok};
 use bank::{Control, Counts, Heads, Phase};
 
 // Whether heads and levels are 0. Capacities are not asked.
+#[tactic(auto, unfolding(bank::specs::Formed::queues_clear))]
 fn queues_clear(l: Counts, h: Heads) -> bool
     ensures { (k : Counts) → result ≡ queues_clear (queues_of k l h) }
 {
@@ -22,6 +23,7 @@ fn queues_clear(l: Counts, h: Heads) -> bool
 }
 
 // Whether syncs, pending bits and the words last read are 0 and no burst is open.
+#[tactic(auto, unfolding(bank::specs::Formed::control_clear))]
 fn control_clear(c: Control) -> bool
     ensures { result ≡ control_clear c }
 {
@@ -35,6 +37,7 @@ fn control_clear(c: Control) -> bool
 }
 
 // Whether a bank is released, or is as `formed.reset` asks. Out of reset nothing is looked at: a branch, since few calls meet a bank in reset.
+#[tactic(auto, unfolding(bank::specs::Formed::reset_ok))]
 pub fn reset_ok(c: Control, p: Phase, l: Counts, h: Heads) -> bool
     ensures { (k : Counts) → result ≡ reset_ok c p (queues_of k l h) }
 {

@@ -30,6 +30,7 @@ pub fn transfer_ok(t: Transfer, most: Bytes, parts: Bytes) -> bool
 }
 
 // Whether the transfer that is open outside a burst is well formed.
+#[tactic(auto, unfolding(bank::specs::Formed::phase_ok))]
 pub fn phase_ok(p: Phase) -> bool
     ensures { result ≡ phase_ok p }
 {

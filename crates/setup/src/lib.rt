@@ -22,6 +22,7 @@ fn counts_of(s: Sizes) -> Counts
 }
 
 // Whether capacities and watermarks are in range (`set-up.numbers`).
+#[tactic(auto, unfolding(bank::specs::SetUp::sizes_ok, bank::specs::SetUp::caps_ok))]
 fn sizes_ok(caps: Sizes, marks: Sizes) -> bool
     ensures { result ≡ sizes_ok caps marks }
 {
@@ -105,6 +106,7 @@ fn refused_set_up() -> SetUp
 }
 
 // A bank in reset with number 0; a bank of zeros with 23 where a number is out of range.
+#[tactic(auto, unfolding(bank::specs::SetUp::set_up))]
 pub fn set_up(caps: Sizes, marks: Sizes, id: u32) -> SetUp
     ensures { result ≡ set_up caps marks id }
 {

@@ -31,6 +31,7 @@ fn ends_other(p: Phase, code: u8) -> bool
 }
 
 // Whether a code may end the open transfer.
+#[tactic(auto, unfolding(model::specs::Calls::allowed))]
 pub fn is_allowed(p: Phase, code: u8) -> bool
     ensures { result ≡ allowed p code }
 {

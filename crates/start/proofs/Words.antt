@@ -1,10 +1,8 @@
 -- What the words of a command say, by the number of words as code has it.
 use Prim.Native.Nat.{ℕ, ◌/◌, ◌%◌}
 use mathlib.Core.Path.{◌≡◌, refl}
-use mathlib.Core.Bool.{Bool, true, false, cond, not, ◌&&◌, false≢true}
+use mathlib.Core.Bool.{Bool, true, false, cond, ◌&&◌}
 use lib.Dec.{eqb}
-use borrow.Author.Tests.{not-false}
-use Rattle.bank.specs.declared.Kind.TheVariants.{Private, Direct, Broadcast}
 use Rattle.bank.specs.declared.Transfer.{Transfer}
 use Rattle.bank.specs.declared.Phase.TheVariants.{Writing, Reading, Unrequested}
 use Rattle.ring.specs.Units.{bytes}
@@ -20,19 +18,6 @@ entdaa_is false w x = refl
 pub first_word_lem : (t : Bool) (w x : ℕ) → first_word (command_of t w x) ≡ w
 first_word_lem true w x = refl
 first_word_lem false w x = refl
-
-pub private_is : (t : Bool) (w x : ℕ) → not t ≡ true → Private ≡ kind_of (command_of t w x)
-unfolding kind_of
-private_is true w x e = absurd (false≢true e)
-private_is false w x e = refl
-
-pub direct_is : (t : Bool) (w x : ℕ) → not t ≡ false → bit 7 x ≡ true → Direct ≡ kind_of (command_of t w x)
-unfolding kind_of
-direct_is t w x e h = rw (not-false t e, h)
-
-pub broadcast_is : (t : Bool) (w x : ℕ) → not t ≡ false → bit 7 x ≡ false → Broadcast ≡ kind_of (command_of t w x)
-unfolding kind_of
-broadcast_is t w x e h = rw (not-false t e, h)
 
 abbrev opened_by : Bool → ℕ → ℕ → Bool → Transfer
 opened_by t w x a = record { kind = kind_of (command_of t w x); header = eqb (w / 0x200000 % 2) 1; length = bytes (cond (is_entdaa (command_of t w x)) 0 (w / 256 % 4096)); moved = bytes 0; attached = a; part = 0 }

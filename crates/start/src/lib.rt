@@ -17,6 +17,7 @@ use effect::{Effect, Op};
 use ring::Bytes;
 
 // The kind of the command with first word `w` and, where it has two, second word `x` (`command.ccc`).
+#[tactic(auto, unfolding(model::specs::Commands::kind_of))]
 fn kind_of(two: bool, w: u32, x: u32) -> Kind
     ensures { result ≡ kind_of (command_of two w x) }
 {
@@ -30,6 +31,7 @@ fn kind_of(two: bool, w: u32, x: u32) -> Kind
 }
 
 // Whether the command is ENTDAA (`command.entdaa`).
+#[tactic(auto, using(crate::proofs::Words::entdaa_is))]
 fn is_entdaa(two: bool, w: u32, x: u32) -> bool
     ensures { result ≡ is_entdaa (command_of two w x) }
 {
@@ -37,6 +39,7 @@ fn is_entdaa(two: bool, w: u32, x: u32) -> bool
 }
 
 // The transfer that a command opens (`command.word`).
+#[tactic(auto, using(crate::proofs::Words::opened_is))]
 fn opened_by(two: bool, w: u32, x: u32, attached: bool) -> Transfer
     ensures { result ≡ opened (command_of two w x) attached }
 {
@@ -53,6 +56,7 @@ fn opened_by(two: bool, w: u32, x: u32, attached: bool) -> Transfer
 }
 
 // The phase that a command begins: ENTDAA, a read or a write.
+#[tactic(auto, using(crate::proofs::Words::assigns, crate::proofs::Words::reads, crate::proofs::Words::writes))]
 fn begun_by(two: bool, w: u32, x: u32, attached: bool) -> Phase
     ensures { result ≡ begun (command_of two w x) attached }
 {
@@ -83,6 +87,7 @@ pub fn private_phase(w: u32, flags: u8) -> Phase
 }
 
 // The number of a start, 0 where none of its tests holds (`start.tests`): `w` and `x` are the first words of CMD.
+#[tactic(auto, unfolding(model::specs::Calls::start))]
 fn start_number(st: State, w: u32, x: u32) -> u32
     ensures { (t : Tables) (f : Fronts) → w ≡ f.cmd.first → x ≡ f.cmd.second → result ≡ number (start (seen st t f)) }
 {

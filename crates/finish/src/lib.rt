@@ -15,6 +15,7 @@ use effect::Effect;
 use ring::Words;
 
 // Whether bytes of a read are left that fill no word: that word goes to SDI (`finish.receipt`).
+#[tactic(auto, unfolding(model::specs::Calls::padded))]
 fn is_padded(p: Phase) -> bool
     ensures { result ≡ padded p }
 {
@@ -31,6 +32,7 @@ fn does_remove(p: Phase, code: u8) -> bool
 }
 
 // How many words leave then, of `level` in SDO: as many as the commanded length needs, or all if there are fewer.
+#[tactic(auto, using(crate::proofs::Finishing::fewer_needed, crate::proofs::Finishing::fewer_there))]
 fn removed_words(t: Transfer, level: Words) -> u32
     ensures { result ≡ removed t level.0 }
 {
@@ -42,6 +44,7 @@ fn removed_words(t: Transfer, level: Words) -> u32
 }
 
 // The number of a finish, 0 where none of its tests holds (`finish.tests`).
+#[tactic(auto, unfolding(model::specs::Calls::finish))]
 fn finish_number(st: State, code: u8) -> u32
     ensures { (t : Tables) (f : Fronts) → result ≡ number (finish (seen st t f) code) }
 {
@@ -58,6 +61,7 @@ fn finish_number(st: State, code: u8) -> u32
 }
 
 // The receipt of a transfer (`receipt.word`).
+#[tactic(auto, unfolding(model::specs::Commands::receipt_word))]
 fn receipt(code: u8, moved: u32, sync: u8) -> u32
     requires { (code ≤ 15) × (moved < 4096) }
     ensures { result ≡ receipt_word code moved sync }

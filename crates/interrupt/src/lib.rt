@@ -14,6 +14,7 @@ use effect::{Effect, Op};
 
 // The number of an interrupt request from a device with the flags `f`, 0 where none of its tests holds
 // (`interrupt.tests`).
+#[tactic(auto, unfolding(model::specs::Calls::interrupt))]
 fn interrupt_number(st: State, f: u8) -> u32
     ensures { (t : Tables) (x : Fronts) (address byte : ℕ) → f ≡ slice_index t.flags address → result ≡ number (interrupt (seen st t x) address byte) }
 {
@@ -37,6 +38,7 @@ fn data_byte(sends: bool, byte: u8) -> u8
 }
 
 // The entry of an interrupt (`entry.word`).
+#[tactic(auto, unfolding(model::specs::Commands::entry_word))]
 fn entry(address: u8, byte: u8, sync: u8) -> u32
     ensures { result ≡ entry_word address byte sync }
 {

@@ -23,6 +23,7 @@ fn ask(c: Control, b: bool) -> Control
 }
 
 // The number of an address request, 0 where none of its tests holds (`request.tests`).
+#[tactic(auto, unfolding(model::specs::Calls::request))]
 fn request_number(st: State) -> u32
     ensures { (t : Tables) (f : Fronts) (v w : ℕ) → result ≡ number (request (seen st t f) v w) }
 {
@@ -52,6 +53,7 @@ pub fn request(st: State, x: u32, w: u32) -> Effect
 }
 
 // The number of an address take, 0 where none of its tests holds (`take.tests`).
+#[tactic(auto, unfolding(model::specs::Calls::take_address))]
 fn take_number(st: State) -> u32
     ensures { (t : Tables) (f : Fronts) → result ≡ number (take_address (seen st t f)) }
 {

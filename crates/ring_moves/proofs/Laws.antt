@@ -1,45 +1,20 @@
 -- Five operations one after another are those of the definition.
 use Prim.Native.Nat.{ℕ, ◌+◌, ◌≤◌}
-use mathlib.Core.Path.{◌≡◌, refl, ap, ◌∙◌, subst}
-use mathlib.Core.Bool.{true, false}
+use mathlib.Core.Path.{◌≡◌, ap, ◌∙◌}
 use mathlib.Core.List.{List}
 use lib.ListN.{length}
 use Rattle.ring.specs.declared.Ring.{Ring}
 use Rattle.ring.specs.Ring.{Valid}
 use Rattle.bank.specs.Queues.{Queues}
 use Rattle.bank.specs.Ready.{Ready}
-use Rattle.model.specs.View.{Queue, Cmd, Cmdr, Sdo, Sdi, Ibi, Five, of, QueueView}
-use Rattle.model.specs.Decision.{QueueOp, keep_all}
+use Rattle.model.specs.View.{Queue, Cmd, Cmdr, Sdo, Sdi, Ibi, Five, of}
+use Rattle.model.specs.Decision.{QueueOp}
 use Rattle.model.specs.Rings.{Area, area, areas, view_queues, on_ring, on_store, on_rings, on_stores}
 use Rattle.model.specs.Fits.{Fits, AllFit}
 use Rattle.model.proofs.Room.{by_queue}
-use Rattle.effect.specs.declared.Op.{Op}
-use Rattle.effect.specs.declared.Ops.{Ops}
-use Rattle.effect.specs.Effects.{op_of, five_of, ops_of}
 use Rattle.rings.proofs.Laws.{standing}
 use Rattle.ring_moves.specs.declared.Moved.{Moved}
 use Rattle.ring_moves.specs.Moved.{moved_to}
-
--- what an operation asks of its queue, where it is known which one it is
-pub told : (o p : Op) (cap level : ℕ) → o ≡ p → Fits (op_of o) cap level → Fits (op_of p) cap level
-told o p cap level e f = subst (λ (x : Op). Fits (op_of x) cap level) e f
-
--- ── Whether any queue is touched ──────────────────────────────────────────────────────────────────────────────
-pub touched : (o : Ops) → o.any ≡ true → ops_of o ≡ five_of o
-unfolding ops_of
-touched o e = rw e
-
-untouched : (o : Ops) → o.any ≡ false → ops_of o ≡ keep_all
-unfolding ops_of
-untouched o e = rw e
-
-pub refit : (x y : Five QueueOp) (f : Five QueueView) → x ≡ y → AllFit x f → AllFit y f
-refit x y f e h = subst (λ (z : Five QueueOp). AllFit z f) e h
-
--- queues g are q as they were
-pub kept : (o : Ops) (q g : Queues) (s : List ℕ) (m : Moved) → o.any ≡ false → m ≡ moved_to g → g ≡ q → (m ≡ moved_to (on_rings (ops_of o) q)) × (s ≡ on_stores (ops_of o) (areas q) s)
-unfolding on_ring on_store
-kept o q g s m n e h = rw (untouched o n) (e ∙ ap moved_to h, refl)
 
 -- ── One queue after another ───────────────────────────────────────────────────────────────────────────────────
 -- what an operation asks of a ring, its base and the length of the store

@@ -24,6 +24,7 @@ pub struct Moved {
 }
 
 // Two words pushed, one behind the other.
+#[tactic(auto, unfolding(model::specs::Rings::on_ring, model::specs::Rings::on_store))]
 fn push_two(r: Ring, base: usize, store: &mut [u32], v: u32, w: u32) -> Ring
     requires { (Valid r) × (r.level.0 + 2 ≤ r.cap.0) × (base + r.cap.0 ≤ length store.old) }
     ensures { (result ≡ on_ring (push2 v w) r) × (store.new ≡ on_store (push2 v w) (area r base) store.old) }
@@ -33,6 +34,7 @@ fn push_two(r: Ring, base: usize, store: &mut [u32], v: u32, w: u32) -> Ring
 }
 
 // One operation on one queue, whose area begins at `base`.
+#[tactic(auto, unfolding(model::specs::Rings::on_ring, model::specs::Rings::on_store))]
 fn apply(o: Op, r: Ring, base: usize, store: &mut [u32]) -> Ring
     requires { (Valid r) × (Fits (op_of o) r.cap.0 r.level.0) × (base + r.cap.0 ≤ length store.old) }
     ensures { (result ≡ on_ring (op_of o) r) × (store.new ≡ on_store (op_of o) (area r base) store.old) × (length store.new ≡ length store.old) }
@@ -109,6 +111,7 @@ fn move_all(o: Ops, k: Counts, l: Counts, h: Heads, store: &mut [u32]) -> Moved
 }
 
 // The operations on all five queues where `any` holds; else nothing moves.
+#[tactic(auto, unfolding(model::specs::Rings::on_ring, model::specs::Rings::on_store, effect::specs::Effects::ops_of))]
 pub fn move_any(o: Ops, k: Counts, l: Counts, h: Heads, store: &mut [u32]) -> Moved
     requires { (Ready (queues_of k l h) store.old) × (AllFit (ops_of o) (view_queues (queues_of k l h) store.old)) }
     ensures { (result ≡ moved_to (on_rings (ops_of o) (queues_of k l h))) × (store.new ≡ on_stores (ops_of o) (areas (queues_of k l h)) store.old) }

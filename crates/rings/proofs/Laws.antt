@@ -1,7 +1,6 @@
 -- Each ring stands in its area of the store.
 use Prim.Native.Nat.{ℕ, ◌+◌, ◌≤◌}
 use native.Mathlib.Omega.{arith}
-use mathlib.Core.Path.{◌≡◌}
 use mathlib.Core.List.{List}
 use lib.ListN.{length}
 use Rattle.ring.specs.declared.Ring.{Ring}
@@ -22,7 +21,3 @@ module _ (q : Queues) (s : List ℕ) (f : Ready q s) where
   standing =
       let n = f.size in
       by_queue (λ k. Stands (of k (areas q)).ring (of k (areas q)).base s) (f.cmd, omega arith) (f.cmdr, omega arith) (f.sdo, omega arith) (f.sdi, omega arith) (f.ibi, omega arith)
-
-  -- ring and base as code has put them together
-  pub stands : (k : Queue) (r : Ring) (base : ℕ) → r ≡ (of k (areas q)).ring → base ≡ (of k (areas q)).base → Stands r base s
-  stands k r base e b = rw (e, b) (standing k)

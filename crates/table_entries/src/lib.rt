@@ -26,6 +26,7 @@ fn put_word(words: &mut [u32], i: u32, v: u32)
     }
 }
 
+#[tactic(auto, unfolding(effect::specs::Effects::tables_by))]
 pub fn put_table(
     t: Table,
     flags: &mut [u8; 128],

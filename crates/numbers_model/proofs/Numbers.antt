@@ -8,15 +8,13 @@ use lib.Dec.{eqb, leb}
 use lib.Count.{ones}
 use borrow.Author.Tests.{eqb-true, eqb-false}
 use Rattle.bank.specs.declared.Sizes.{Sizes}
-use Rattle.bank.specs.declared.SetUp.{SetUp}
 use Rattle.bank.specs.SetUp.{sizes_ok, bank_of, refused_set_up, set_up}
-use Rattle.bank.specs.Bits.{bit}
 use Rattle.bank.specs.Bursts.{bursting}
 use Rattle.registers.specs.Map.{register_at}
 use Rattle.model.specs.declared.Call.{Call}
 use Rattle.model.specs.declared.Call.TheVariants.{Read, Write, Start, Send, Receive, Finish, Interrupt, Request, Take, Trigger}
 use Rattle.model.specs.View.{View}
-use Rattle.model.specs.Decision.{Effect, Decision, does, ◌⇒◌∣◌, first, effect}
+use Rattle.model.specs.Decision.{Decision, does, ◌⇒◌∣◌, first, effect}
 use Rattle.model.specs.Registers.{Row, absent, shows, holds, pushes, takes, enables, acknowledges, row, read, write}
 use Rattle.model.specs.Calls.{start, send, receive, finish, interrupt, request, take_address}
 use Rattle.model.specs.Bursts.{trigger, burst_send, burst_receive, burst_finish, decide}
@@ -25,7 +23,7 @@ use Rattle.model.specs.Rings.{Controller, view_rings, settle_rings, guard_rings,
 use Rattle.model.proofs.Tests.{of_two, of_take}
 use Rattle.model.proofs.Numbers.{emptied, read_number, write_number}
 use Rattle.model.proofs.Laws.{stays_at_3}
-use Rattle.numbers_model.specs.Numbers.{numbers, ends, valued, among, in_order, tested, Answered, Demand1}
+use Rattle.numbers_model.specs.Numbers.{numbers, ends, valued, among, in_order, tested, Demand1}
 
 -- ── The order ─────────────────────────────────────────────────────────────────────────────────────────────────
 -- behind the two tests of bank and store

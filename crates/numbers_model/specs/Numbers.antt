@@ -2,7 +2,6 @@
 -- docs/ANSWERS.md has the same table, and a test holds it to this one.
 use Rattle.std.specs.Prelude.{ℕ, ◌≡◌, Bool, true, false, cond, ◌||◌, List, [], ◌∷◌, ◌++◌, eqb}
 use Rattle.number.specs.Names as number
-use Rattle.bank.specs.declared.Answer.{Answer}
 use Rattle.bank.specs.declared.Sizes.{Sizes}
 use Rattle.bank.specs.SetUp.{set_up}
 use Rattle.model.specs.declared.Call.{Call}

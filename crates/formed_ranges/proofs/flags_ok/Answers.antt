@@ -13,10 +13,11 @@ loop-i-preserved c =
     let m = c.if-most-x.most in
     let x : ℕ = get_or a l.i 0 in
     let one : (ltb l.most 8 && ltb x 8) ≡ ltb m 8 =
-        elim c.if-most-x.branch
-          [ then-most-x w ↦ larger l.most x (omega (arith, w.if-most-x.true)) ∙ ap (λ (n : ℕ). ltb n 8) (sym w.most-is)
-          | else-most-x w ↦
-            and_comm (ltb l.most 8) (ltb x 8) ∙ larger x l.most (omega (arith, w.if-most-x.false)) ∙ ap (λ (n : ℕ). ltb n 8) (sym w.most-is) ] in
+    elim c.if-most-x.branch [
+      | then-most-x w ↦ larger l.most x (omega (arith, w.if-most-x.true)) ∙ ap (λ (n : ℕ). ltb n 8) (sym w.most-is)
+      | else-most-x w ↦
+          and_comm (ltb l.most 8) (ltb x 8) ∙ larger x l.most (omega (arith, w.if-most-x.false)) ∙ ap (λ (n : ℕ). ltb n 8) (sym w.most-is)
+    ] in
     record { all = refl; same = l.invariant.same ∙ next a l.i l.most m (omega (arith, c.loop-i-test.true)) one }
 
 pub returns : goal.returns

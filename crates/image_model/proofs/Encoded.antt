@@ -1,6 +1,6 @@
 -- When words are encoded, by the ranges of their fields: most words always are, a byte is below 256, a bit below 2; a phase has its number
 -- and its transfer, and where none is open zeros.
-use Prim.Native.Nat.{ℕ, zero, suc, ◌+◌, ◌%◌, ◌≤◌, ◌<◌}
+use Prim.Native.Nat.{ℕ, zero, suc, ◌+◌, ◌%◌, ◌<◌}
 use native.Mathlib.Omega.{arith}
 use native.Mathlib.Nat.{mod-eq_of_lt}
 use mathlib.Core.Path.{◌≡◌, refl, ap, sym, subst, ◌∙◌}
@@ -13,7 +13,6 @@ use borrow.Author.Tests.{eqb-true, eqb-false, leb-true, leb-false, eq-eqb, ne_eq
 use Rattle.ring.specs.Units.{bytes}
 use Rattle.bank.specs.declared.Transfer.{Transfer}
 use Rattle.bank.specs.declared.Phase.{Phase}
-use Rattle.bank.specs.declared.Phase.TheVariants.{Answered}
 use Rattle.bank.specs.Bits.{word_if}
 use Rattle.image_model.specs.Image.{kind_number, phase_words, kind_in, phase_in, same, encoded, state_in, heads_in, image_of}
 use Rattle.image_model.proofs.Numbers.{answered_in}

@@ -15,6 +15,7 @@ pub enum Parsed {
 }
 
 // The call of a letter, by the values of its last field and of the field before it. No field's value is cut.
+#[tactic(auto, unfolding(crate::specs::Forms::forms, crate::specs::Forms::form_with))]
 pub fn call(letter: u8, v: u32, w: u32) -> Parsed
     ensures { result ≡ named_by (form_of letter) v w }
 {

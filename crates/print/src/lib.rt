@@ -41,6 +41,7 @@ pub fn line(a: Answer) -> [u8; 12]
 }
 
 // The bytes of a line, into the text from a place on: a layer, no interface.
+#[tactic(auto, using(crate::proofs::Output::line_next))]
 pub fn put(out: &mut [u8], at: usize, text: [u8; 12])
     requires { at + 12 ≤ length out.old }
     ensures { take (at + 12) out.new ≡ take at out.old ++ text }

@@ -13,6 +13,7 @@ use bank::{Phase, State};
 use effect::{Effect, Op};
 
 // The number of a send, 0 where none of its tests holds (`send.tests`).
+#[tactic(auto, unfolding(model::specs::Calls::send))]
 fn send_number(st: State) -> u32
     ensures { (t : Tables) (f : Fronts) → result ≡ number (send (seen st t f)) }
 {
@@ -46,6 +47,7 @@ pub fn send(st: State, word: u32) -> Effect
 }
 
 // The number of a receive, 0 where none of its tests holds (`receive.tests`).
+#[tactic(auto, unfolding(model::specs::Calls::receive))]
 fn receive_number(st: State) -> u32
     ensures { (t : Tables) (f : Fronts) (byte : ℕ) → result ≡ number (receive (seen st t f) byte) }
 {

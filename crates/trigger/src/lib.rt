@@ -29,6 +29,7 @@ pub fn burst_at(c: Control, n: u8) -> Control
 }
 
 // The number of a trigger, 0 where none of its tests holds (`trigger.tests`).
+#[tactic(auto, unfolding(model::specs::Bursts::trigger))]
 fn trigger_number(st: State, commands: &[u32; 16], len: usize) -> u32
     ensures { (a p o : List ℕ) (f : Fronts) → length o ≡ len → result ≡ number (trigger (seen st (tables a commands.now p o) f)) }
 {

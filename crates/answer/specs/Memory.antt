@@ -1,6 +1,6 @@
 -- Contracts of calls: the memory that is lent to a call, as one record, when the call begins and when it ends.
 use Rattle.std.specs.Prelude.{List, [], ℕ}
-use Rattle.std.specs.Borrow.{Bor}
+use Rattle.std.specs.Borrow.{MutBor}
 use denote.Triple.Both.{Both}
 use Rattle.bank.specs.declared.Bank.{Bank}
 use Rattle.bank.specs.declared.State.{State}
@@ -16,12 +16,12 @@ pub record Memory : Type 0 where
   pub store : List ℕ
 
 -- flags, offload commands, offload data words, store and output, behind references
-abbrev pub memory : Bor (List ℕ) → Bor (List ℕ) → Bor (List ℕ) → Bor (List ℕ) → Bor (List ℕ) → Memory
+abbrev pub memory : MutBor (List ℕ) → MutBor (List ℕ) → MutBor (List ℕ) → MutBor (List ℕ) → MutBor (List ℕ) → Memory
 memory f c p s o = record { tables = tables f.now c.now p.now o.now; store = s.now }
 
 -- what a contract knows of a parameter: its value at both moments
 abbrev pub Param : Type 0
-Param = Both (Bor (List ℕ)) (Bor (List ℕ))
+Param = Both (MutBor (List ℕ)) (MutBor (List ℕ))
 
 -- as it is lent, and as it is left
 abbrev pub lent : Param → Param → Param → Param → Param → Memory

@@ -6,7 +6,7 @@ use Rattle.bank.specs.declared.State.{State}
 use Rattle.bank.specs.declared.Heads.{Heads}
 use Rattle.bank.specs.Queues.{queues_of}
 use Rattle.bank.specs.Ready.{Ready}
-use Rattle.model.specs.View.{of, Tables}
+use Rattle.model.specs.View.{Tables}
 use Rattle.model.specs.Rings.{areas, on_rings, on_stores}
 use Rattle.model.proofs.Rings.{caps_same}
 use Rattle.effect.specs.declared.Effect.{Effect}

@@ -1,26 +1,24 @@
 -- What the tests of a burst's events tell, and what each event does where they pass.
-use Prim.Native.Nat.{ℕ, ◌+◌, ◌-◌, ◌*◌, ◌/◌, ◌%◌, ◌^◌, ◌<◌, ◌≤◌}
+use Prim.Native.Nat.{ℕ, ◌+◌, ◌-◌, ◌*◌, ◌/◌, ◌%◌, ◌^◌, ◌<◌}
 use native.Mathlib.Nat.{mod-eq_of_lt}
 use native.Mathlib.Omega.{arith}
 use mathlib.Core.Path.{◌≡◌, refl, ap, ◌∙◌}
-use mathlib.Core.Bool.{Bool, true, false, cond}
+use mathlib.Core.Bool.{true, false}
 use mathlib.Core.List.{List}
 use lib.Dec.{eqb, leb, ltb}
-use lib.ListN.{length, set}
-use borrow.Author.Tests.{leb-true, leb-false, eqb-true, eqb-false, not-true, not-false}
+use borrow.Author.Tests.{leb-false, eqb-true, not-false}
 use Rattle.bank.specs.declared.State.{State}
 use Rattle.bank.specs.declared.Phase.TheVariants.{Writing, Reading}
 use Rattle.bank.specs.Phases.{reading, transfer, limit}
-use Rattle.bank.specs.Bursts.{span, bursting, gathered_bytes}
+use Rattle.bank.specs.Bursts.{bursting, gathered_bytes}
 use Rattle.bank.specs.Formed.{open_ok}
 use Rattle.bank.proofs.Bools.{three}
-use Rattle.model.specs.View.{Tables, tables, View}
-use Rattle.model.specs.Decision.{Effect, unchanged, ◌with_value◌, ◌with_phase◌, ◌⇒◌∣◌}
+use Rattle.model.specs.View.{View}
+use Rattle.model.specs.Decision.{Effect, unchanged, ◌with_value◌, ◌with_phase◌}
 use Rattle.model.specs.Calls.{advanced}
 use Rattle.model.specs.Bursts.{output_first, data_word, burst_send, burst_receive}
 use Rattle.model.proofs.Open.{BurstOk, burst_of, burst_parts, at_most_four}
-use Rattle.effect.specs.declared.Table.TheVariants.{Output}
-use Rattle.effect.specs.Effects.{number, tables_by, verdict}
+use Rattle.effect.specs.Effects.{number, verdict}
 use Rattle.effect.proofs.Laws.{cleared, served_as}
 
 -- ── Bytes of a burst ─────────────────────────────────────────────────────────────────────────────────────────

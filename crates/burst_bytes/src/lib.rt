@@ -14,6 +14,7 @@ use bank::{Control, Phase, State};
 use effect::Effect;
 
 // The offload data word of the open write, told by the writes before it (`burst.bytes`).
+#[tactic(auto, unfolding(bank::specs::Bursts::reads_in))]
 fn data_word(c: Control, commands: &[u32; 16], payloads: &[u32; 16]) -> u32
     requires { c.burst ≤ 15 }
     ensures { result ≡ get_or payloads.now (writes_in (place c) commands.now) 0 }
@@ -27,6 +28,7 @@ fn data_word(c: Control, commands: &[u32; 16], payloads: &[u32; 16]) -> u32
 }
 
 // The number of a send, 0 where none of its tests holds: 13 for the output, then `send.tests` without 12.
+#[tactic(auto, unfolding(model::specs::Bursts::burst_send), using(trigger::proofs::Within::short_is))]
 fn send_number(st: State, commands: &[u32; 16], len: usize) -> u32
     requires { bursting st.control ≡ true }
     ensures { (a p o : List ℕ) (f : Fronts) → length o ≡ len → (let v = seen st (tables a commands.now p o) f in result ≡ number (output_first v (burst_send v))) }
@@ -61,6 +63,7 @@ pub fn send(st: State, commands: &[u32; 16], payloads: &[u32; 16], len: usize) -
 }
 
 // The number of a receive, 0 where none of its tests holds: 13 for the output, then `receive.tests` without 13.
+#[tactic(auto, unfolding(model::specs::Bursts::burst_receive), using(trigger::proofs::Within::short_is))]
 fn receive_number(st: State, commands: &[u32; 16], len: usize) -> u32
     requires { bursting st.control ≡ true }
     ensures { (a p o : List ℕ) (f : Fronts) (byte : ℕ) → length o ≡ len → (let v = seen st (tables a commands.now p o) f in result ≡ number (output_first v (burst_receive v byte))) }

@@ -6,7 +6,7 @@
 use Prim.Native.Nat.{ℕ}
 use mathlib.Core.List.{[], ◌∷◌, List}
 use seplogic.Ra.Ura.{Ura}
-use seplogic.Ra.TreeShare.{full_share}
+use base.Fraction.{full_share}
 use mir.Syntax.{named}
 use mir.Val.{Val, vptr}
 use base.Stored.{Gv}
@@ -45,7 +45,7 @@ module _ {M : Type 1} {𝓤 : Ura M} {𝓛 : Logic 𝓤} {K : Type 0} {Γ : List
   unfolding part_of
   lends t z T L facts h l is k =
       use1 𝓛 (‵ (cell_at full_share (row T).mir (vals T L h) l 0)) (𝓛.laws.at_raw full_share (mir_of T) l 0 (val T L h)) $ owned t (row T) (Is (row T)) (makes T facts 𝓛) h (vals T L h) is $ move t (1 ∷ 0 ∷ []) $ fjoin t $
-      fpack t (List Val) (λ vs. fsep (cell_at full_share (row T).mir vs l 0) ((row T).own h vs)) (vals T L h) $ lft_new t z (λ ν. move t (1 ∷ []) $
+      fpack t (List Val) (λ vs. fsep (cell_at full_share (row T).mir vs l 0) ((row T).own_val h vs)) (vals T L h) $ lft_new t z (λ ν. move t (1 ∷ []) $
       use1 𝓛 (later (some (λ (δ : GName). ‵ ((MutRef (named 0) (ν ∷ []) (row T)).own_val (record { ref_ptr = (l, 0); ghost_name = δ; now = h }) (vptr l 0 ∷ [])) ⊛ ‵ (flent (ν ∷ []) (Body (mem (row T)) l 0 δ))))) (lends_ref 𝓛 (row T) (named 0) (ν ∷ []) h l 0) $
       await t z $ pick t (λ δ. split t $ move t (2 ∷ 0 ∷ 1 ∷ []) $ k ν δ))
 

@@ -6,7 +6,7 @@ use mathlib.Core.Path.{refl}
 use mathlib.Core.List.{[], ◌∷◌, List}
 use Prim.Native.Nat.{ℕ}
 use seplogic.Ra.Ura.{Ura}
-use seplogic.Ra.TreeShare.{full_share}
+use base.Fraction.{full_share}
 use mir.Syntax.{Ty}
 use mir.Val.{Val}
 use base.Logic.{SProp, ent, sep, via, id⊢, mono_r}
@@ -16,7 +16,7 @@ use types.Logic.{Logic}
 use types.Kit.{Item, ‵, raw, ⋆, prop, frees, Step, step, ◌$◌, ◌∵◌, !, qed, by, move, join, frame}
 use types.Run.{forget}
 
-module _ {M : Type 1} {𝓤 : Ura M} {𝓛 : Logic 𝓤} where
+module _ {M : Type 1} {𝓤 : Ura M} (𝓛 : Logic 𝓤) where
   -- what is to hold beside, out of what is to hold once the locals are freed
   open 𝓛 use {H}
 
@@ -32,17 +32,19 @@ module _ {M : Type 1} {𝓤 : Ura M} {𝓛 : Logic 𝓤} where
   pub record Lie (K : Type 0) (E : Env 𝓤 H) (Γ Δ : List (Item 𝓤)) : Type 2 where
     pub go : (P : SProp 𝓤) → ent 𝓤 (⋆ 𝓛 Γ) P → ent 𝓤 (⋆ 𝓛 Δ) (release 𝓤 H E P)
 
-  module _ {K : Type 0} where
-    pub none : K → {Γ : List (Item 𝓤)} → Lie K [] Γ Γ
-    none t = record { go = λ P h. h }
+module _ {M : Type 1} {𝓤 : Ura M} {𝓛 : Logic 𝓤} {K : Type 0} where
+  open 𝓛 use {H}
 
-    pub local : K → {τ : Ty} {l : ℕ} {v : Val} {E : Env 𝓤 H} {Γ Δ : List (Item 𝓤)} → Lie K E (‵ (fat full_share τ l 0 v) ∷ ‵ (fdies τ l) ∷ Γ) Δ → Lie K ((τ, l) ∷ E) Γ Δ
-    local t {τ} {l} {v} {E} {Γ} {Δ} more = record {
-      go = λ P h.
-          via 𝓤 (release 𝓤 H E (sep 𝓤 (sep 𝓤 (H.room τ l 0) (H.dies τ l)) P))
-          (more.go (sep 𝓤 (sep 𝓤 (H.room τ l 0) (H.dies τ l)) P) (qed 𝓛 (‵ (fat full_share τ l 0 v) ∷ ‵ (fdies τ l) ∷ Γ) ∵ forget ! 0 refl $ join ! $ frame ! $ by ! h))
-          (beside E (sep 𝓤 (H.room τ l 0) (H.dies τ l)) P);
-    }
+  pub none : K → {Γ : List (Item 𝓤)} → Lie 𝓛 K [] Γ Γ
+  none t = record { go = λ P h. h }
 
-    pub freed : K → {E : Env 𝓤 H} {Γ Δ : List (Item 𝓤)} {P : SProp 𝓤} → Lie K E Γ Δ → Step K 𝓛 Γ (prop P) Δ (frees E (prop P))
-    freed t {E} {Γ} {Δ} {P} lie = step (λ s. record { prf = lie.go P s.prf })
+  pub local : K → {τ : Ty} {l : ℕ} {v : Val} {E : Env 𝓤 H} {Γ Δ : List (Item 𝓤)} → Lie 𝓛 K E (‵ (fat full_share τ l 0 v) ∷ ‵ (fdies τ l) ∷ Γ) Δ → Lie 𝓛 K ((τ, l) ∷ E) Γ Δ
+  local t {τ} {l} {v} {E} {Γ} {Δ} more = record {
+    go = λ P h.
+        via 𝓤 (release 𝓤 H E (sep 𝓤 (sep 𝓤 (H.room τ l 0) (H.dies τ l)) P))
+        (more.go (sep 𝓤 (sep 𝓤 (H.room τ l 0) (H.dies τ l)) P) (qed 𝓛 (‵ (fat full_share τ l 0 v) ∷ ‵ (fdies τ l) ∷ Γ) ∵ forget ! 0 refl $ join ! $ frame ! $ by ! h))
+        (beside 𝓛 E (sep 𝓤 (H.room τ l 0) (H.dies τ l)) P);
+  }
+
+  pub freed : K → {E : Env 𝓤 H} {Γ Δ : List (Item 𝓤)} {P : SProp 𝓤} → Lie 𝓛 K E Γ Δ → Step K 𝓛 Γ (prop P) Δ (frees E (prop P))
+  freed t {E} {Γ} {Δ} {P} lie = step (λ s. record { prf = lie.go P s.prf })

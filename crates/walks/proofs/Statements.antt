@@ -11,7 +11,7 @@ use mathlib.Core.Path.{◌≡◌, sym, subst, refl, ap}
 use Prim.Native.Nat.{ℕ}
 use mathlib.Core.List.{List, [], ◌∷◌}
 use seplogic.Ra.Ura.{Ura}
-use seplogic.Ra.TreeShare.{full_share}
+use base.Fraction.{full_share}
 use lib.Dec.{T}
 use lib.ListN.{get_or}
 use mir.Syntax.{Ty, Step as Way, place, Sym, ty_struct, tcons, tnil, deref, field, copy, rv_opd, Body, seq, assign, aggregate, addr_of}
@@ -84,7 +84,7 @@ module _ {M : Type 1} {𝓤 : Ura M} {𝓛 : Logic 𝓤} {K : Type 0} {C : Calls
   open 𝓛 use {H}
 
   pub gets : K → (T : Declared) (L : Laws T) (n : ℕ) (r : T.D) → get_or E i (no_local 𝓤 H) ≡ (mir_of T, l) → nth 𝓛 n Γ ≡ ‵ (froom (mir_of T) l 0)
-      → (Is (row T) r (w ∷ []) → Seq K 𝓛 (put 𝓛 n (‵ (fat full_share (mir_of T) l 0 (val T L r))) Γ) (runs C Λ E rest q)) → Seq K 𝓛 (‵ ((row T).own r (w ∷ [])) ∷ Γ) (lands C Λ E (place i []) w rest q)
+      → (Is (row T) r (w ∷ []) → Seq K 𝓛 (put 𝓛 n (‵ (fat full_share (mir_of T) l 0 (val T L r))) Γ) (runs C Λ E rest q)) → Seq K 𝓛 (‵ ((row T).own_val r (w ∷ [])) ∷ Γ) (lands C Λ E (place i []) w rest q)
   gets t T L n r at_i at_n k = peeks t (row T) (Is (row T)) (shows 𝓛 (row T)) r (w ∷ []) (λ is. drop t $ land t (from_local t at_i (stop t)) (init t n at_n ((lawful T L 𝓛).typed r (w ∷ []) is).0) $
       subst (λ (u : Val). Seq K 𝓛 (put 𝓛 n (‵ (fat full_share (mir_of T) l 0 u)) Γ) (runs C Λ E rest q)) (sym (ap only (tells T L r (w ∷ []) is))) (k is))
 

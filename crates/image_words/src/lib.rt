@@ -77,6 +77,7 @@ fn state_words(s: State, h: Heads) -> [u32; 43]
 }
 
 // Written into an image, which has its length.
+#[tactic(auto, using(image_model::proofs::Fill::fill_next))]
 pub fn encode(s: State, h: Heads, image: &mut [u32])
     requires { length image.old ≡ size }
     ensures { image.new ≡ image_of s h }

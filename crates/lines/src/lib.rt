@@ -62,6 +62,7 @@ fn skip() -> Reading
 }
 
 // The first byte of a line.
+#[tactic(auto, unfolding(letters::specs::Forms::forms, letters::specs::Forms::form_with))]
 fn letter(b: u8) -> Reading
     ensures { result ≡ letter_read (form_of b) }
 {

@@ -47,6 +47,7 @@ pub struct Walked {
 }
 
 // The starts of a table of `n` sections, one after another.
+#[tactic(auto, unfolding(trace_model::specs::Format::starts_right, trace_model::specs::Format::records))]
 pub fn walk(file: &[u8], n: u32) -> Walked
     requires { (n ≡ sections file.now) × (n ≤ 64) × (6 + 8 * n ≤ length file.now) }
     ensures { (result.right ≡ starts_right file.now n) × (result.end ≡ section_place file.now n) }
@@ -64,6 +65,7 @@ pub fn walk(file: &[u8], n: u32) -> Walked
 }
 
 // Whether the table is whole and right, and the file ends where it says.
+#[tactic(auto, unfolding(trace_model::specs::Format::table_right))]
 fn table_right(file: &[u8]) -> bool
     ensures { result ≡ table_right file.now }
 {
@@ -85,6 +87,7 @@ fn table_right(file: &[u8]) -> bool
 }
 
 // The number of the file as a whole: 24, 25, or 0 (`trace.refused`).
+#[tactic(auto, unfolding(trace_model::specs::Format::fault))]
 pub fn fault(file: &[u8]) -> u32
     ensures { result ≡ fault file.now }
 {

@@ -1,5 +1,4 @@
 pub mod Choices
-pub mod Digits
 pub mod Cases
 pub mod Grammar
 pub mod Bytes

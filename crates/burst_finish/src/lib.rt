@@ -18,6 +18,7 @@ use bank::{Phase, State};
 use effect::{Effect, Table};
 
 // The number of a finish, 0 where none of its tests holds: 13 for the output, then 5, 7 and 14 of `finish.tests`.
+#[tactic(auto, unfolding(model::specs::Bursts::burst_finish), using(trigger::proofs::Within::short_is))]
 fn finish_number(st: State, commands: &[u32; 16], len: usize, code: u8) -> u32
     requires { bursting st.control ≡ true }
     ensures { (a p o : List ℕ) (f : Fronts) → length o ≡ len → (let v = seen st (tables a commands.now p o) f in result ≡ number (output_first v (burst_finish v code))) }

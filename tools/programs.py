@@ -173,7 +173,7 @@ class Run:
             child = subprocess.Popen([self.program], stdin=subprocess.PIPE, stdout=subprocess.PIPE,
                                      stderr=said)
         except OSError as error:
-            raise Bad('%s: %s; `rt check %s` builds it'
+            raise Bad('%s: %s; `tools/build %s` builds it'
                       % (self.program, error.strerror, self.name)) from None
         feed = Feed(data, child.stdin)
         child.stdin = None

@@ -1,5 +1,5 @@
-//! The proved model: the functions of the archives that `rt staticlib timing_list` and
-//! `rt staticlib timing_each` write, and the ways to replay a trace by them and by libthymewax.a.
+//! The proved model: the functions of the archives that `tools/build timing_list timing_each`
+//! writes, and the ways to replay a trace by them and by libthymewax.a.
 
 use crate::{called, host};
 use bench::plain::replay::Ran;

@@ -4,7 +4,7 @@
     tour.py
 
 A command is a line of a fenced block that begins with `$ `. It runs in the repository's root, once the programs are built:
-what a command says of `rt check` before `&&` is not run. Its standard output must be what the page shows, byte for byte,
+what a command says of `tools/build` before `&&` is not run. Its standard output must be what the page shows, byte for byte,
 with nothing on standard error and status 0. The calls in the picture of README.md are lines that its command prints. Exit
 status 0 only if all is so and each page shows as many commands as PAGES says.
 """
@@ -21,7 +21,7 @@ from tests.documents.pages import ROOT, commands, fenced_blocks
 
 # The pages, and how many commands each has at least.
 PAGES = {'README.md': 1, 'docs/TOUR.md': 7}
-BUILDS = re.compile(rb'rt check [\w ]+ && ')
+BUILDS = re.compile(rb'tools/build [\w ]+ && ')
 PICTURE = ROOT / 'docs/overview.svg'
 CALL = re.compile(r'class="call[^"]*"[^>]*>([^<]*)<')
 LEAST_CALLS = 3

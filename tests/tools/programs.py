@@ -168,7 +168,7 @@ def options(*_):
         for path, why in (('/nonexistent', 'No such file or directory'), ('/', 'Is a directory')):
             ended(name, path, status=2, told=('%s: %s: %s\n' % (name, path, why)).encode())
         ended(name, '--program', '/nonexistent', status=2, data=RIGHT, told=(
-            '%s: /nonexistent: No such file or directory; `rt check %s` builds it\n'
+            '%s: /nonexistent: No such file or directory; `tools/build %s` builds it\n'
             % (name, name)).encode())
     ended('replay', 'one', 'two', status=2, told=b'replay: unrecognized arguments: two\n')
 

@@ -1,18 +1,21 @@
 // What a program does where its input or its output fails (`program.failure`): it counts the answers that were written
-// whole, and says on standard error what happened. It knows bytes and file descriptors.
+// whole, and says on standard error what happened. It knows bytes and writers.
 #![tactic(auto)]
 
-ghost use Rattle.std.specs.Prelude.{◌≡◌, ◌+◌, ◌/◌, ◌%◌, ◌^◌, ◌≤◌, ◌++◌, length, take};
+ghost use Rattle.std.specs.Prelude.{◌≡◌, ℕ, List, ◌+◌, ◌/◌, ◌%◌, ◌^◌, ◌≤◌, ◌++◌, length, take};
+ghost use Rattle.std.specs.Io.KnownBytes.{Appends};
 ghost use Rattle.notice.specs.Notice.{Noticed};
 
+use std::io::Write;
+
 // Writes all bytes, or those before the first write that fails or takes none: how many were written.
-pub fn write_counted(fd: i32, bytes: &[u8]) -> usize
-    ensures { result ≤ length bytes.now }
+pub fn write_counted<W: Write>(to: &mut W, bytes: &[u8]) -> usize
+    ensures bound { result ≤ length bytes.now }
+    ensures written { Appends (W.contents to.old) (W.contents to.new) (take result bytes.now) }
 {
     let mut done: usize = 0;
     while done < bytes.len() {
-        let got = libc::write(fd, &bytes[done..]);
-        let n = io::count(got, &bytes[done..]);
+        let n = to.write(&bytes[done..]).unwrap_or(0);
         if n == 0 {
             return done;
         }
@@ -25,7 +28,7 @@ pub fn write_counted(fd: i32, bytes: &[u8]) -> usize
 pub fn counted(answers: u64, bytes: usize) -> u64
     ensures { result ≡ (answers + bytes / 12) % 2 ^ 64 }
 {
-    std::num::wrapping_add_u64(answers, bytes as u64 / 12)
+    answers.wrapping_add(bytes as u64 / 12)
 }
 
 // Bytes behind those before a place, and the place behind them.
@@ -54,11 +57,12 @@ pub fn line(words: &[u8], n: u64, out: &mut [u8]) -> usize
 
 // Says the words and the number on standard error, and gives how many bytes were written: a layer, no interface. Where
 // standard error fails too, nothing can be said.
-pub fn tell(words: &[u8], n: u64) -> usize
+pub fn tell<W: Write>(errors: &mut W, words: &[u8], n: u64) -> usize
     requires { length words.now ≤ 64 }
-    ensures { result ≤ length words.now + 21 }
+    ensures bound { result ≤ length words.now + 21 }
+    ensures written { (text : List ℕ) × Noticed words.now n text × Appends (W.contents errors.old) (W.contents errors.new) (take result text) }
 {
     let mut text = [0u8; 85];
     let m = line(words, n, &mut text);
-    write_counted(2, &text[..m])
+    write_counted(errors, &text[..m])
 }

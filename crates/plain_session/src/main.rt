@@ -4,6 +4,7 @@
 ghost use Rattle.std.specs.Prelude.{◌≤◌, length};
 
 use plain_console::Console;
+use std::io::{Read, Write};
 
 // The console after a piece of the input, and whether there may be more to read.
 #[derive(Clone, Copy)]
@@ -13,21 +14,26 @@ struct Progress {
 }
 
 // The next piece of the input.
-fn turn(console: Console, store: &mut [u32], out: &mut [u8]) -> Progress
+fn turn<R: Read, W: Write>(
+    input: &mut R,
+    output: &mut W,
+    console: Console,
+    store: &mut [u32],
+    out: &mut [u8],
+) -> Progress
     requires { 49152 ≤ length out.old }
 {
     let mut piece = [0u8; 4096];
-    let got = libc::read(0, &mut piece);
-    if got <= 0 {
+    let n = input.read(&mut piece).unwrap_or(0);
+    if n == 0 {
         return Progress {
             console: console,
             more: false,
         };
     }
-    let n = io::count(got, &piece);
     let f = plain_console::feed(console, store, false, &piece[..n], out);
     let m = f.count;
-    let ok = io::write_all(1, &out[..m]);
+    let ok = output.write_all(&out[..m]).is_ok();
     let next = f.console;
     Progress {
         console: next,
@@ -35,10 +41,12 @@ fn turn(console: Console, store: &mut [u32], out: &mut [u8]) -> Progress
     }
 }
 
-fn main() {
+fn main(rt: HostRuntime) {
+    let mut input = rt.stdin();
+    let mut output = rt.stdout();
     // Room for five queues of the largest capacity.
     let mut store = [0u32; 5120];
-    let mut out = io::large_buffer();
+    let mut out = [0u8; 65536];
     let mut console = plain_console::begin();
     let mut more = true;
     let mut turns = u64::MAX;
@@ -47,10 +55,10 @@ fn main() {
             return;
         }
         turns -= 1;
-        let t = turn(console, &mut store, &mut out);
+        let t = turn(&mut input, &mut output, console, &mut store, &mut out);
         console = t.console;
         more = t.more;
     }
     let m = plain_console::close(console, &mut store, &mut out);
-    io::write_all(1, &out[..m]);
+    let _ = output.write_all(&out[..m]);
 }

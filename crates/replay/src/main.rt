@@ -6,6 +6,7 @@
 ghost use Rattle.std.specs.Prelude.{◌≡◌, ◌≤◌, ◌<◌, length};
 
 use bank::Bank;
+use std::io::{Read, Write};
 use stream_model::Stage;
 
 // The bank, what is to come, and how many bytes at the front of the buffer were not used; how many answers were
@@ -29,35 +30,40 @@ struct Filled {
 }
 
 // Input or output failed: says so, with how many answers were written before.
-fn input_failed(answers: u64) {
+fn input_failed<W: Write>(errors: &mut W, answers: u64) {
     notice::tell(
+        errors,
         b"replay: standard input cannot be read; answers written: ",
         answers,
     );
 }
 
-fn output_failed(answers: u64) {
+fn output_failed<W: Write>(errors: &mut W, answers: u64) {
     notice::tell(
+        errors,
         b"replay: standard output cannot be written; answers written: ",
         answers,
     );
 }
 
 // More of the input, read in behind the bytes held.
-fn fill(buf: &mut [u8], held: usize) -> Filled
+fn fill<R: Read>(input: &mut R, buf: &mut [u8], held: usize) -> Filled
     requires { held ≤ length buf.old }
     ensures { (held ≤ result.have) × (result.have ≤ length buf.new) }
 {
-    let got = libc::read(0, &mut buf[held..]);
-    let n = io::count(got, &buf[held..]);
+    let got = input.read(&mut buf[held..]);
+    let failed = got.is_err();
+    let n = got.unwrap_or(0);
     Filled {
         have: held + n,
-        failed: got < 0,
+        failed: failed,
     }
 }
 
 // The next piece of the input.
-fn turn(
+fn turn<R: Read, W: Write>(
+    input: &mut R,
+    output: &mut W,
     b: Bank,
     stage: Stage,
     held: usize,
@@ -69,7 +75,7 @@ fn turn(
     requires { (held < 518) × (length buf.old ≡ 24576) × (length out.old ≡ 24588) }
     ensures { result.held < 518 }
 {
-    let filled = fill(buf, held);
+    let filled = fill(input, buf, held);
     let have = filled.have;
     if have == held {
         return Progress {
@@ -84,7 +90,7 @@ fn turn(
     }
     let f = stream::feed(b, store, stage, &buf[..have], out);
     let count = f.count;
-    let sent = notice::write_counted(1, &out[..count]);
+    let sent = notice::write_counted(output, &out[..count]);
     let used = f.used;
     let rest = have - used;
     buffer::shift(buf, used, rest);
@@ -102,15 +108,18 @@ fn turn(
 }
 
 // The end of the input: whether all output was written.
-fn end(stage: Stage, held: usize, out: &mut [u8]) -> bool
+fn end<W: Write>(output: &mut W, stage: Stage, held: usize, out: &mut [u8]) -> bool
     requires { 12 ≤ length out.old }
 {
     let m = stream_end::end(stage, held, out);
-    let sent = notice::write_counted(1, &out[..m]);
+    let sent = notice::write_counted(output, &out[..m]);
     sent == m
 }
 
-fn main() {
+fn main(rt: HostRuntime) {
+    let mut input = rt.stdin();
+    let mut output = rt.stdout();
+    let mut errors = rt.stderr();
     let mut store = [0u32; 20];
     let mut buf = [0u8; 24576];
     let mut out = [0u8; 24588];
@@ -127,7 +136,17 @@ fn main() {
             return;
         }
         turns -= 1;
-        let t = turn(bank, stage, held, &mut store, &mut buf, &mut out, answers);
+        let t = turn(
+            &mut input,
+            &mut output,
+            bank,
+            stage,
+            held,
+            &mut store,
+            &mut buf,
+            &mut out,
+            answers,
+        );
         bank = t.bank;
         stage = t.stage;
         held = t.held;
@@ -137,12 +156,12 @@ fn main() {
         written = t.written;
     }
     if written {
-        written = end(stage, held, &mut out);
+        written = end(&mut output, stage, held, &mut out);
     }
     if !readable {
-        input_failed(answers);
+        input_failed(&mut errors, answers);
     }
     if !written {
-        output_failed(answers);
+        output_failed(&mut errors, answers);
     }
 }

@@ -7,6 +7,7 @@ ghost use Rattle.std.specs.Prelude.{◌+◌, ◌≤◌, length};
 
 use bank::Bank;
 use model::Call;
+use std::io::Write;
 
 const ENABLE: u16 = 0x040;
 
@@ -135,30 +136,32 @@ fn line(page: &mut [u8], at: usize, sample: u32, words: [u32; 3]) -> usize
     put(page, at3, words[2] / 65536, b'\n')
 }
 
-fn write(page: &[u8], at: usize)
+// The front of a page, where the output takes it.
+fn write<W: Write>(output: &mut W, page: &[u8], at: usize)
     requires { at ≤ length page.now }
 {
-    io::write_all(1, &page[..at]);
+    let _ = output.write_all(&page[..at]);
 }
 
 // A page without room for another line is written, and begins anew.
-fn turned(page: &[u8], at: usize) -> usize
+fn turned<W: Write>(output: &mut W, page: &[u8], at: usize) -> usize
     requires { (at ≤ length page.now) × (44 ≤ length page.now) }
     ensures { result + 44 ≤ length page.now }
 {
     if at + 44 <= page.len() {
         return at;
     }
-    write(page, at);
+    write(output, page, at);
     0
 }
 
 // A burst with an answer that is not 0 ends the table, without its line.
-fn main() {
-    let mut page = io::buffer();
+fn main(rt: HostRuntime) {
+    let mut output = rt.stdout();
+    let mut page = [0u8; 4096];
     let mut at = 0;
     let mut board = ready();
-    io::write_all(1, b"sample,channel0,channel1,channel2\n");
+    let _ = output.write_all(b"sample,channel0,channel1,channel2\n");
     for sample in 0..SAMPLES {
         board = burst(board, sample);
         if !board.good {
@@ -166,12 +169,12 @@ fn main() {
         }
         let words = board.words;
         at = line(&mut page, at, sample, words);
-        at = turned(&page, at);
+        at = turned(&mut output, &page, at);
     }
-    write(&page, at);
+    write(&mut output, &page, at);
     if board.good {
-        io::write_all(1, b"# all answers 0\n");
+        let _ = output.write_all(b"# all answers 0\n");
         return;
     }
-    io::write_all(1, b"# an answer was not 0\n");
+    let _ = output.write_all(b"# an answer was not 0\n");
 }

@@ -7,6 +7,7 @@ ghost use Rattle.std.specs.Prelude.{◌≤◌, length};
 
 use bank::Bank;
 use lines::Reading;
+use std::io::{Read, Write};
 
 // The bank and the line so far; how many answers were written; whether there may be more to read; whether the input
 // could be read, and all output be written.
@@ -21,41 +22,52 @@ struct Progress {
 }
 
 // Input or output failed: says so, with how many answers were written before.
-fn input_failed(answers: u64) {
+fn input_failed<W: Write>(errors: &mut W, answers: u64) {
     notice::tell(
+        errors,
         b"session: standard input cannot be read; answers written: ",
         answers,
     );
 }
 
-fn output_failed(answers: u64) {
+fn output_failed<W: Write>(errors: &mut W, answers: u64) {
     notice::tell(
+        errors,
         b"session: standard output cannot be written; answers written: ",
         answers,
     );
 }
 
 // The next piece of the input.
-fn turn(b: Bank, line: Reading, store: &mut [u32], out: &mut [u8], answers: u64) -> Progress
+fn turn<R: Read, W: Write>(
+    input: &mut R,
+    output: &mut W,
+    b: Bank,
+    line: Reading,
+    store: &mut [u32],
+    out: &mut [u8],
+    answers: u64,
+) -> Progress
     requires { 49152 ≤ length out.old }
 {
     let mut piece = [0u8; 4096];
-    let got = libc::read(0, &mut piece);
-    if got <= 0 {
+    let got = input.read(&mut piece);
+    let readable = got.is_ok();
+    let n = got.unwrap_or(0);
+    if n == 0 {
         return Progress {
             bank: b,
             line: line,
             answers: answers,
             more: false,
-            readable: got == 0,
+            readable: readable,
             written: true,
         };
     }
-    let n = io::count(got, &piece);
     let mut none = [0u32; 0];
     let f = sessions::feed(b, store, &mut none, line, &piece[..n], out);
     let m = f.count;
-    let sent = notice::write_counted(1, &out[..m]);
+    let sent = notice::write_counted(output, &out[..m]);
     let next = f.bank;
     let rest = f.line;
     Progress {
@@ -69,19 +81,22 @@ fn turn(b: Bank, line: Reading, store: &mut [u32], out: &mut [u8], answers: u64)
 }
 
 // The end of the input closes the last line: whether all output was written.
-fn end(b: Bank, line: Reading, store: &mut [u32], out: &mut [u8]) -> bool
+fn end<W: Write>(output: &mut W, b: Bank, line: Reading, store: &mut [u32], out: &mut [u8]) -> bool
     requires { 12 ≤ length out.old }
 {
     let mut none = [0u32; 0];
     let e = sessions::end_line(b, store, &mut none, line, out, 0);
     let m = e.count;
-    let sent = notice::write_counted(1, &out[..m]);
+    let sent = notice::write_counted(output, &out[..m]);
     sent == m
 }
 
-fn main() {
+fn main(rt: HostRuntime) {
+    let mut input = rt.stdin();
+    let mut output = rt.stdout();
+    let mut errors = rt.stderr();
     let mut store = [0u32; 20];
-    let mut out = io::large_buffer();
+    let mut out = [0u8; 65536];
     let mut bank = setup::session_bank();
     let mut line = lines::begin();
     let mut answers: u64 = 0;
@@ -94,7 +109,15 @@ fn main() {
             return;
         }
         turns -= 1;
-        let t = turn(bank, line, &mut store, &mut out, answers);
+        let t = turn(
+            &mut input,
+            &mut output,
+            bank,
+            line,
+            &mut store,
+            &mut out,
+            answers,
+        );
         bank = t.bank;
         line = t.line;
         answers = t.answers;
@@ -104,13 +127,13 @@ fn main() {
     }
     if !readable {
         // A line that is cut here was closed neither by a newline nor by the end of the input, so it is no call.
-        input_failed(answers);
+        input_failed(&mut errors, answers);
         return;
     }
     if written {
-        written = end(bank, line, &mut store, &mut out);
+        written = end(&mut output, bank, line, &mut store, &mut out);
     }
     if !written {
-        output_failed(answers);
+        output_failed(&mut errors, answers);
     }
 }

@@ -9,6 +9,7 @@ use bank::{Answer, Bank, Sizes};
 use letters::Parsed;
 use lines::Reading;
 use model::Call;
+use std::io::{Read, Write};
 
 // ── A line, byte by byte ───────────────────────────────────────────────────────────────────────────────────────
 // Set-up: `B`, then its eleven numbers, with one space before each.
@@ -311,12 +312,19 @@ struct Progress {
 }
 
 // The next piece of the input.
-fn turn(board: Board, line: Line, store: &mut [u32], out: &mut [u8]) -> Progress
+fn turn<R: Read, W: Write>(
+    input: &mut R,
+    output: &mut W,
+    board: Board,
+    line: Line,
+    store: &mut [u32],
+    out: &mut [u8],
+) -> Progress
     requires { 49152 ≤ length out.old }
 {
     let mut piece = [0u8; 4096];
-    let got = libc::read(0, &mut piece);
-    if got <= 0 {
+    let n = input.read(&mut piece).unwrap_or(0);
+    if n == 0 {
         return Progress {
             board: board,
             line: line,
@@ -324,10 +332,9 @@ fn turn(board: Board, line: Line, store: &mut [u32], out: &mut [u8]) -> Progress
             written: true,
         };
     }
-    let n = io::count(got, &piece);
     let f = feed(board, store, line, &piece[..n], out);
     let m = f.count;
-    let ok = io::write_all(1, &out[..m]);
+    let ok = output.write_all(&out[..m]).is_ok();
     let next = f.board;
     let rest = f.line;
     Progress {
@@ -339,18 +346,20 @@ fn turn(board: Board, line: Line, store: &mut [u32], out: &mut [u8]) -> Progress
 }
 
 // The end of the input ends the last line.
-fn end(board: Board, line: Line, store: &mut [u32], out: &mut [u8])
+fn end<W: Write>(output: &mut W, board: Board, line: Line, store: &mut [u32], out: &mut [u8])
     requires { 12 ≤ length out.old }
 {
     let e = end_line(board, store, line);
     let m = put(e.said, e.answer, out, 0);
-    io::write_all(1, &out[..m]);
+    let _ = output.write_all(&out[..m]);
 }
 
-fn main() {
+fn main(rt: HostRuntime) {
+    let mut input = rt.stdin();
+    let mut output = rt.stdout();
     // Room for five queues of the largest capacity.
     let mut store = [0u32; 5120];
-    let mut out = io::large_buffer();
+    let mut out = [0u8; 65536];
     let mut board = Board {
         bank: setup::session_bank(),
         words: [0xffff_ffff; 16],
@@ -365,13 +374,13 @@ fn main() {
             return;
         }
         turns -= 1;
-        let t = turn(board, line, &mut store, &mut out);
+        let t = turn(&mut input, &mut output, board, line, &mut store, &mut out);
         board = t.board;
         line = t.line;
         more = t.more;
         written = t.written;
     }
     if written {
-        end(board, line, &mut store, &mut out);
+        end(&mut output, board, line, &mut store, &mut out);
     }
 }

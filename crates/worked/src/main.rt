@@ -7,6 +7,7 @@ ghost use Rattle.std.specs.Prelude.{◌<◌};
 
 use bank::Bank;
 use model::Call;
+use std::io::Write;
 
 const ENABLE: u16 = 0x040;
 
@@ -51,13 +52,13 @@ fn run(board: Board, call: Call) -> Board {
     }
 }
 
-// The board after a call whose answer is printed.
-fn say(board: Board, call: Call) -> Board {
+// The board after a call whose answer is printed, where the output takes it.
+fn say<W: Write>(output: &mut W, board: Board, call: Call) -> Board {
     let mut store = board.store;
     let mut none = [0u32; 0];
     let out = controller::step(board.bank, &mut store, &mut none, call);
     let text = print::line(out.answer);
-    io::write_all(1, &text);
+    let _ = output.write_all(&text);
     let b = out.bank;
     Board {
         bank: b,
@@ -66,18 +67,18 @@ fn say(board: Board, call: Call) -> Board {
 }
 
 // The worked session of 01, 'A session'.
-fn session() {
+fn session<W: Write>(output: &mut W) {
     let mut board = fresh();
-    board = say(board, Call::Write(ENABLE, 0));
-    board = say(board, Call::Write(DEV_CHAR, DEVICE));
-    board = say(board, Call::Write(SDO, 0xa5c3_0000));
-    board = say(board, Call::Write(CMD, 0x210));
-    board = say(board, Call::Start);
-    board = say(board, Call::Send);
-    board = say(board, Call::Send);
-    board = say(board, Call::Finish(0));
-    board = say(board, Call::Read(CMDR));
-    say(board, Call::Read(CMDR));
+    board = say(output, board, Call::Write(ENABLE, 0));
+    board = say(output, board, Call::Write(DEV_CHAR, DEVICE));
+    board = say(output, board, Call::Write(SDO, 0xa5c3_0000));
+    board = say(output, board, Call::Write(CMD, 0x210));
+    board = say(output, board, Call::Start);
+    board = say(output, board, Call::Send);
+    board = say(output, board, Call::Send);
+    board = say(output, board, Call::Finish(0));
+    board = say(output, board, Call::Read(CMDR));
+    say(output, board, Call::Read(CMDR));
 }
 
 // A fresh board, released, on which a command for device 8 has started.
@@ -90,17 +91,17 @@ fn started(command: u32) -> Board {
 }
 
 // 004, 'SDI and SDO': the first row of the SDO table, a write of four bytes.
-fn sent() {
+fn sent<W: Write>(output: &mut W) {
     let mut board = started(0x410);
     board = run(board, Call::Write(SDO, 0x7856_3412));
-    board = say(board, Call::Send);
-    board = say(board, Call::Send);
-    board = say(board, Call::Send);
-    say(board, Call::Send);
+    board = say(output, board, Call::Send);
+    board = say(output, board, Call::Send);
+    board = say(output, board, Call::Send);
+    say(output, board, Call::Send);
 }
 
 // 004, 'SDI and SDO': the SDI table, a read of five bytes.
-fn received() {
+fn received<W: Write>(output: &mut W) {
     let mut board = started(0x511);
     board = run(board, Call::Receive(0));
     board = run(board, Call::Receive(1));
@@ -108,8 +109,8 @@ fn received() {
     board = run(board, Call::Receive(3));
     board = run(board, Call::Receive(4));
     board = run(board, Call::Finish(0));
-    board = say(board, Call::Read(SDI));
-    say(board, Call::Read(SDI));
+    board = say(output, board, Call::Read(SDI));
+    say(output, board, Call::Read(SDI));
 }
 
 // The SDO word of an address and a parity bit.
@@ -120,7 +121,7 @@ fn word(address: u32, parity: u32) -> u32
 }
 
 // One device takes an address (`take.address`): 004, 'Dynamic Address Assignment'.
-fn assigned(word: u32) {
+fn assigned<W: Write>(output: &mut W, word: u32) {
     let mut board = fresh();
     board = run(board, Call::Write(ENABLE, 0));
     board = run(board, Call::Write(CMD, 0x0040_0000));
@@ -128,23 +129,24 @@ fn assigned(word: u32) {
     board = run(board, Call::Start);
     board = run(board, Call::Request(0, 0));
     board = run(board, Call::Write(SDO, word));
-    say(board, Call::Take);
+    say(output, board, Call::Take);
 }
 
 // An address with the parity bit that makes the number of ones odd, then with the other.
-fn both_parities(address: u32)
+fn both_parities<W: Write>(output: &mut W, address: u32)
     requires { address < 128 }
 {
     let parity = 1 - u32::count_ones(address) % 2;
-    assigned(word(address, parity));
-    assigned(word(address, 1 - parity));
+    assigned(output, word(address, parity));
+    assigned(output, word(address, 1 - parity));
 }
 
-fn main() {
-    session();
-    sent();
-    received();
+fn main(rt: HostRuntime) {
+    let mut output = rt.stdout();
+    session(&mut output);
+    sent(&mut output);
+    received(&mut output);
     for address in 0..128 {
-        both_parities(address);
+        both_parities(&mut output, address);
     }
 }

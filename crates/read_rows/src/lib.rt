@@ -37,6 +37,7 @@ fn show_again(st: State, latest: u32) -> Effect
 }
 
 // A read of CMDR (`take.read`, `take.empty`); one that empties the queue clears pending bit 5 (`source.receipt`).
+#[tactic(auto, unfolding(effect::specs::Effects::verdict))]
 pub fn read_cmdr(st: State, word: u32) -> Effect
     ensures { (t : Tables) (f : Fronts) → word ≡ f.cmdr.first → effect_of result t ≡ verdict (read (row CmdrFifo)) (seen st t f) }
 {
@@ -54,6 +55,7 @@ pub fn read_cmdr(st: State, word: u32) -> Effect
 }
 
 // A read of SDI (`take.read`, `take.empty`).
+#[tactic(auto, unfolding(effect::specs::Effects::verdict))]
 pub fn read_sdi(st: State, word: u32) -> Effect
     ensures { (t : Tables) (f : Fronts) → word ≡ f.sdi.first → effect_of result t ≡ verdict (read (row SdiFifo)) (seen st t f) }
 {
@@ -70,6 +72,7 @@ pub fn read_sdi(st: State, word: u32) -> Effect
 }
 
 // A read of IBI (`take.read`, `take.empty`); one that empties the queue clears pending bit 6 (`source.interrupt`).
+#[tactic(auto, unfolding(effect::specs::Effects::verdict))]
 pub fn read_ibi(st: State, word: u32) -> Effect
     ensures { (t : Tables) (f : Fronts) → word ≡ f.ibi.first → effect_of result t ≡ verdict (read (row IbiFifo)) (seen st t f) }
 {

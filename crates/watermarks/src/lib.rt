@@ -43,6 +43,7 @@ fn counts_with(m: Counts, i: u32, x: u32) -> Counts
 }
 
 // A write to a watermark: its low 16 bits, or 30 where they are above the capacity.
+#[tactic(auto, unfolding(effect::specs::Effects::verdict))]
 pub fn write_watermark(st: State, i: u32, x: u32) -> Effect
     ensures { (t : Tables) (f : Fronts) → effect_of result t ≡ verdict (λ v. write (row (Watermark i)) v x) (seen st t f) }
 {

@@ -1,5 +1,5 @@
--- A read that takes the first word of a queue, or shows its last one again.
-use mathlib.Core.Path.{◌≡◌, refl}
+-- A read of an empty queue, which shows its last word again.
+use mathlib.Core.Path.{◌≡◌}
 use borrow.Author.Tests.{eq-eqb, ne_eqb}
 use Rattle.model.specs.View.{Queue, of, View}
 use Rattle.model.specs.Registers.{takes, taken_first, shown_again, read}
@@ -10,8 +10,3 @@ module _ (q : Queue) (s : View) where
   pub empty_row : (of q s.queues).level ≡ 0 → shown_again q s ≡ verdict (read (takes q)) s
   unfolding verdict
   empty_row e = rw (eq-eqb _ _ e)
-
-  -- a queue with one or more
-  pub taken_row : ((of q s.queues).level ≡ 0 → ⊥) → taken_first q s ≡ verdict (read (takes q)) s
-  unfolding verdict
-  taken_row z = rw (ne_eqb _ _ z)

@@ -1,4 +1,4 @@
--- The queue of a number, as a `match` finds it, and a write to a watermark: refused, or taken.
+-- A write to a watermark that is refused: its number is above the capacity.
 use Prim.Native.Nat.{ℕ, ◌%◌, ◌^◌, ◌<◌, ◌≤◌}
 use native.Mathlib.Omega.{arith}
 use mathlib.Core.Path.{◌≡◌, refl, sym, ◌∙◌, ap}
@@ -13,10 +13,6 @@ use Rattle.model.proofs.Numbers.{write_refusals}
 use Rattle.effect.specs.Effects.{number, verdict}
 use Rattle.effect.specs.Seen.{Fronts, seen}
 use Rattle.effect.proofs.Laws.{refused_as, served_as}
-
--- none of the first four
-pub last_queue : (i : ℕ) → (i ≡ 0 → ⊥) → (i ≡ 1 → ⊥) → (i ≡ 2 → ⊥) → (i ≡ 3 → ⊥) → queue_at i ≡ Ibi
-last_queue i a b c d = rw (ne_eqb i 0 a, ne_eqb i 1 b, ne_eqb i 2 c, ne_eqb i 3 d)
 
 module _ (q : Queue) (x : ℕ) (st : State) (t : Tables) (f : Fronts) where
   abbrev low : ℕ
@@ -40,6 +36,3 @@ module _ (q : Queue) (x : ℕ) (st : State) (t : Tables) (f : Fronts) where
 
   pub above : count_of q st.caps < low → (unchanged view with_number 30) ≡ verdict decides view
   above h = refused_as decides view 30 (λ z. omega (arith, z)) (sym (numbered ∙ ap (λ b. cond b 30 0) (lt-ltb _ low h)))
-
-  pub taken : low ≤ count_of q st.caps → effect (decides view) ≡ verdict decides view
-  taken h = served_as decides view (write_refusals view (holds (watermark q)) x) (numbered ∙ ap (λ b. cond b 30 0) (le-ltb (count_of q st.caps) low h))

@@ -24,6 +24,7 @@ fn acknowledge(c: Control, x: u32) -> Control
     next
 }
 
+#[tactic(auto, unfolding(effect::specs::Effects::verdict))]
 pub fn write_pending(st: State, x: u32) -> Effect
     ensures { (t : Tables) (f : Fronts) → effect_of result t ≡ verdict (λ v. write (row IrqPending) v x) (seen st t f) }
 {
@@ -35,6 +36,7 @@ pub fn write_pending(st: State, x: u32) -> Effect
 }
 
 // ENABLE written 1 (`enable.reset`): the registers stay.
+#[tactic(auto, unfolding(model::specs::Registers::enable))]
 fn reset(st: State) -> Effect
     ensures { (t : Tables) (f : Fronts) → effect_of result t ≡ enable (seen st t f) true }
 {
@@ -45,6 +47,7 @@ fn reset(st: State) -> Effect
 }
 
 // ENABLE written 0 (`enable.release`).
+#[tactic(auto, unfolding(model::specs::Registers::enable))]
 fn release(st: State) -> Effect
     ensures { (t : Tables) (f : Fronts) → effect_of result t ≡ enable (seen st t f) false }
 {

@@ -1,8 +1,8 @@
 -- A read of an empty queue, which shows its last word again.
 use mathlib.Core.Path.{◌≡◌}
-use borrow.Author.Tests.{eq-eqb, ne_eqb}
+use borrow.Author.Tests.{eq-eqb}
 use Rattle.model.specs.View.{Queue, of, View}
-use Rattle.model.specs.Registers.{takes, taken_first, shown_again, read}
+use Rattle.model.specs.Registers.{takes, shown_again, read}
 use Rattle.effect.specs.Effects.{verdict}
 
 module _ (q : Queue) (s : View) where

@@ -1,18 +1,17 @@
 -- A write to a watermark that is refused: its number is above the capacity.
-use Prim.Native.Nat.{ℕ, ◌%◌, ◌^◌, ◌<◌, ◌≤◌}
+use Prim.Native.Nat.{ℕ, ◌%◌, ◌^◌, ◌<◌}
 use native.Mathlib.Omega.{arith}
 use mathlib.Core.Path.{◌≡◌, refl, sym, ◌∙◌, ap}
 use mathlib.Core.Bool.{cond}
 use lib.Dec.{ltb}
-use borrow.Author.Tests.{ne_eqb, lt-ltb, le-ltb}
+use borrow.Author.Tests.{lt-ltb}
 use Rattle.bank.specs.declared.State.{State}
 use Rattle.model.specs.View.{Queue, Cmd, Cmdr, Sdo, Sdi, Ibi, of, Tables, View}
-use Rattle.model.specs.Decision.{Decision, effect, unchanged, ◌with_number◌}
-use Rattle.model.specs.Registers.{holds, watermark, queue_at, count_of, write}
-use Rattle.model.proofs.Numbers.{write_refusals}
+use Rattle.model.specs.Decision.{Decision, unchanged, ◌with_number◌}
+use Rattle.model.specs.Registers.{holds, watermark, count_of, write}
 use Rattle.effect.specs.Effects.{number, verdict}
 use Rattle.effect.specs.Seen.{Fronts, seen}
-use Rattle.effect.proofs.Laws.{refused_as, served_as}
+use Rattle.effect.proofs.Laws.{refused_as}
 
 module _ (q : Queue) (x : ℕ) (st : State) (t : Tables) (f : Fronts) where
   abbrev low : ℕ

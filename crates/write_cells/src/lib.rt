@@ -26,6 +26,7 @@ fn put_regs(st: State, g: Regs, n: u32) -> Effect
 }
 
 // SCRATCH (`scratch.keeps`).
+#[tactic(auto, unfolding(effect::specs::Effects::verdict))]
 pub fn write_scratch(st: State, x: u32) -> Effect
     ensures { (t : Tables) (f : Fronts) → effect_of result t ≡ verdict (λ v. write (row Scratch) v x) (seen st t f) }
 {
@@ -35,6 +36,7 @@ pub fn write_scratch(st: State, x: u32) -> Effect
 }
 
 // IRQ_MASK (`mask.keeps`).
+#[tactic(auto, unfolding(effect::specs::Effects::verdict))]
 pub fn write_mask(st: State, x: u32) -> Effect
     ensures { (t : Tables) (f : Fronts) → effect_of result t ≡ verdict (λ v. write (row IrqMask) v x) (seen st t f) }
 {
@@ -44,6 +46,7 @@ pub fn write_mask(st: State, x: u32) -> Effect
 }
 
 // IBI_CONFIG (`ibi-config.keeps`).
+#[tactic(auto, unfolding(effect::specs::Effects::verdict))]
 pub fn write_config(st: State, x: u32) -> Effect
     ensures { (t : Tables) (f : Fronts) → effect_of result t ≡ verdict (λ v. write (row IbiConfig) v x) (seen st t f) }
 {
@@ -78,6 +81,7 @@ pub fn write_ops(st: State, x: u32) -> Effect
 }
 
 // DEV_CHAR: `dev-char.select`, `dev-char.flags`.
+#[tactic(auto, unfolding(effect::specs::Effects::verdict, effect::specs::Effects::tables_by))]
 pub fn write_device(st: State, x: u32) -> Effect
     ensures { (t : Tables) (f : Fronts) → effect_of result t ≡ verdict (λ v. write (row DevChar) v x) (seen st t f) }
 {
@@ -106,6 +110,7 @@ fn put_entry(st: State, n: u32, t: Table) -> Effect
 }
 
 // An offload command (`offload.keeps`).
+#[tactic(auto, unfolding(effect::specs::Effects::verdict, effect::specs::Effects::tables_by))]
 pub fn write_offload_cmd(st: State, i: u32, x: u32) -> Effect
     ensures { (t : Tables) (f : Fronts) → effect_of result t ≡ verdict (λ v. write (row (OffloadCmd i)) v x) (seen st t f) }
 {
@@ -114,6 +119,7 @@ pub fn write_offload_cmd(st: State, i: u32, x: u32) -> Effect
 }
 
 // An offload data word (`offload.keeps`).
+#[tactic(auto, unfolding(effect::specs::Effects::verdict, effect::specs::Effects::tables_by))]
 pub fn write_offload_sdo(st: State, i: u32, x: u32) -> Effect
     ensures { (t : Tables) (f : Fronts) → effect_of result t ≡ verdict (λ v. write (row (OffloadSdo i)) v x) (seen st t f) }
 {

@@ -1,0 +1,6 @@
+-- A refusal, with its number by two tests.
+use Rattle.std.proofs.Common.{◌∙◌}
+use Rattle.offload.proofs.bar.Goals as goal
+
+pub returns : goal.returns
+returns c = λ t f. c.refuse.ensures t f ∙ rw (c.select.ensures, c.select-m.ensures)

@@ -8,9 +8,8 @@ use Rattle.ring.specs.Units.{words}
 use Rattle.bank.specs.declared.Counts.{Counts}
 use Rattle.model.specs.View.{Queue, Five, of}
 use Rattle.model.specs.Decision.{QueueOp}
-use Rattle.effect.specs.declared.Op.{Op}
 use Rattle.effect.specs.declared.Ops.{Ops}
-use Rattle.effect.specs.Effects.{op_of, five_of, ops_of}
+use Rattle.effect.specs.Effects.{five_of, ops_of}
 use Rattle.plain_model.specs.declared.PlainArea.{PlainArea}
 use Rattle.plain_model.specs.Areas.{plain_areas}
 use Rattle.plain_model.specs.Moves.{on_level, on_plain_store, on_levels, on_plain_stores}
@@ -18,10 +17,6 @@ use Rattle.plain_model.specs.FitsArea.{FitsArea, AllFitAreas}
 use Rattle.plain_words.specs.declared.PlainAreas.{PlainAreas}
 use Rattle.plain_words.specs.Fronts.{areas_of}
 use Rattle.plain_words.proofs.Laws.{inside}
-
--- what is asked of an operation, by the variant that the code saw
-pub told : (o x : Op) (a : PlainArea) → o ≡ x → FitsArea (op_of o) a → FitsArea (op_of x) a
-told o x a e w = subst (λ (y : Op). FitsArea (op_of y) a) e w
 
 -- where nothing happens to any queue
 pub kept : (o : Ops) (k l : Counts) (s : List ℕ) → o.any ≡ false → (l ≡ on_levels (ops_of o) l) × (s ≡ on_plain_stores (ops_of o) (plain_areas k l) s)

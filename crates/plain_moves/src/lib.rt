@@ -44,6 +44,7 @@ pub fn move_all(o: Ops, caps: Counts, levels: Counts, store: &mut [u32]) -> Coun
 }
 
 // One operation on one queue: the level after it. A clear writes no word (`plain.clear`).
+#[tactic(auto, unfolding(plain_model::specs::Moves::on_plain_store))]
 fn apply(o: Op, a: PlainArea, store: &mut [u32]) -> u32
     requires { (FitsArea (op_of o) a) × (a.base + a.cap ≤ length store.old) }
     ensures { (result ≡ on_level (op_of o) a.level) × (store.new ≡ on_plain_store (op_of o) a store.old) × (length store.new ≡ length store.old) }
@@ -58,6 +59,7 @@ fn apply(o: Op, a: PlainArea, store: &mut [u32]) -> u32
 }
 
 // A word goes behind the last one (`plain.push`).
+#[tactic(auto, unfolding(plain_model::specs::Moves::on_plain_store))]
 fn push(store: &mut [u32], a: PlainArea, w: u32) -> u32
     requires { (FitsArea (push w) a) × (a.base + a.cap ≤ length store.old) }
     ensures { (result ≡ on_level (push w) a.level) × (store.new ≡ on_plain_store (push w) a store.old) }
@@ -67,6 +69,7 @@ fn push(store: &mut [u32], a: PlainArea, w: u32) -> u32
 }
 
 // Two words go behind the last one, the first before the second.
+#[tactic(auto, unfolding(plain_model::specs::Moves::on_plain_store))]
 fn push_two(store: &mut [u32], a: PlainArea, v: u32, w: u32) -> u32
     requires { (FitsArea (push2 v w) a) × (a.base + a.cap ≤ length store.old) }
     ensures { (result ≡ on_level (push2 v w) a.level) × (store.new ≡ on_plain_store (push2 v w) a store.old) }
@@ -77,6 +80,7 @@ fn push_two(store: &mut [u32], a: PlainArea, v: u32, w: u32) -> u32
 }
 
 // The first `k` words leave a queue, and the rest moves to the front of its area (`plain.take`).
+#[tactic(auto, unfolding(plain_model::specs::Moves::on_plain_store))]
 fn take(store: &mut [u32], a: PlainArea, k: u32) -> u32
     requires { (FitsArea (take k) a) × (a.base + a.cap ≤ length store.old) }
     ensures { (result ≡ on_level (take k) a.level) × (store.new ≡ on_plain_store (take k) a store.old) }

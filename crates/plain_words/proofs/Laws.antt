@@ -1,7 +1,7 @@
 -- The words of a plain queue by their places, and that every area lies inside the store.
 use Prim.Native.Nat.{ℕ, ◌+◌, ◌<◌, ◌≤◌}
 use native.Mathlib.Omega.{arith}
-use mathlib.Core.Path.{◌≡◌, ap, ◌∙◌}
+use mathlib.Core.Path.{◌≡◌}
 use mathlib.Core.List.{List}
 use lib.ListN.{length, get_or, get_or-eq_default}
 use Rattle.ring.proofs.Laws.{read_length, read_at}
@@ -12,9 +12,6 @@ use Rattle.model.proofs.Room.{by_queue}
 use Rattle.plain_model.specs.declared.PlainArea.{PlainArea}
 use Rattle.plain_model.specs.Areas.{plain_areas, plain_words}
 use Rattle.plain_model.specs.FitsArea.{AllFitAreas}
-use Rattle.plain_words.specs.declared.PlainAreas.{PlainAreas}
-use Rattle.plain_words.specs.declared.FirstWords.{FirstWords}
-use Rattle.plain_words.specs.Fronts.{areas_of, firsts_of, plain_fronts}
 
 pub word_there : (a : PlainArea) (st : List ℕ) (i : ℕ) → i < a.level → get_or (plain_words a st) i 0 ≡ get_or st (a.base + i) 0
 unfolding plain_words
@@ -33,11 +30,3 @@ inside o k l s w =
 -- and so do its words, in the area as code has put it together
 pub reach : (k l : Counts) (s : List ℕ) → AllFitAreas keep_all k l s → (q : Queue) (a : PlainArea) → a ≡ of q (plain_areas k l) → a.base + a.level ≤ length s
 reach k l s w q a e = let h = inside keep_all k l s w q in let m = (w.each q).most in rw e (omega arith)
-
--- six words, each looked for in an area as code has put it together
-pub looked : (k l : Counts) (s : List ℕ) (a : PlainAreas) (w : FirstWords) → a ≡ areas_of (plain_areas k l)
-    → w ≡ (let at : (PlainArea → ℕ → ℕ) = λ x i. get_or (plain_words x s) i 0 in record { cmd = at a.cmd 0; second = at a.cmd 1; cmdr = at a.cmdr 0; sdo = at a.sdo 0; sdi = at a.sdi 0; ibi = at a.ibi 0 })
-    → w ≡ firsts_of (plain_fronts k l s)
-looked k l s a w e h =
-    let at : (PlainArea → ℕ → ℕ) = λ x i. get_or (plain_words x s) i 0 in
-    h ∙ ap (λ (x : PlainAreas). record { cmd = at x.cmd 0; second = at x.cmd 1; cmdr = at x.cmdr 0; sdo = at x.sdo 0; sdi = at x.sdi 0; ibi = at x.ibi 0 }) e

@@ -4,7 +4,7 @@
     contracts.py
 
 From the repository's root. A contract, and a definition, cites specs/ and the library alone: no `use` in crates/*/src or
-crates/*/specs leads into a proofs folder, nor does a path in the text. Every public function has an `ensures`. Every public
+crates/*/specs leads into a proofs folder, nor does a path in the text, but for those of the library (`Rattle.std`). Every public function has an `ensures`. Every public
 function that has a `requires` stands in the table of docs/ARCHITECTURE.md on what layers ask of their callers, and every
 function of that table has one; so no function of the interface has. Prints a line for each that is not so. Exit status 0
 only if there is none.
@@ -17,7 +17,10 @@ import sys
 CRATES = pathlib.Path('crates')
 # A public function with its contract: up to the brace that opens its body, at the start of a line.
 PUBLIC = re.compile(r'^\s*pub (?:extern "C" )?fn (\w+)(.*?)(?:^\s*\{$|\{\n)', re.M | re.S)
-INTO_PROOFS = re.compile(r'·proofs\b|\.proofs\.')
+INTO_PROOFS = re.compile(r'(?<!\bRattle\.std)\.proofs\b')
+# A clause of either kind, with a name where there are several.
+ENSURES = re.compile(r'\bensures\*?(?: \w+)? \{')
+REQUIRES = re.compile(r'\brequires\*?(?: \w+)? \{')
 ASKS = '| layer | what it asks of its caller | why |'
 
 
@@ -41,9 +44,9 @@ def main() -> None:
     for path in sorted(CRATES.glob('*/src/*.rt')):
         for name, contract in PUBLIC.findall(path.read_text()):
             public += 1
-            if 'ensures {' not in contract:
+            if not ENSURES.search(contract):
                 wrong.append(f'{path}: {name} is public and promises nothing')
-            if 'requires {' in contract:
+            if REQUIRES.search(contract):
                 asking.add(f'{path.parts[1]}::{name}')
     table = set(asked(pathlib.Path('docs/ARCHITECTURE.md').read_text()))
     wrong += [f'docs/ARCHITECTURE.md: {name} asks something of its caller, and is not in the table' for name in sorted(asking - table)]

@@ -81,7 +81,7 @@ def once(path: str, text: str, pattern: str) -> str:
 
 
 def mapped(text: str) -> Facts:
-    """The registers of `named` and the memories of `offload`, as long as `inMemory` says."""
+    """The registers of `named` and the memories of `offload`, as long as `in_memory` says."""
     body = once(MAP, text, r'^named =\n((?:[ \t]+\S.*\n)+)')
     found: Facts = {}
     for part in (part.strip() for part in body.split('∷')):
@@ -91,9 +91,9 @@ def mapped(text: str) -> Facts:
             found[name] = entry[1]
         elif part != '[]':
             found[f'the entry {part!r}'] = 'of another form'
-    last = int(once(MAP, text, r'^inMemory base o = leb base o && leb o \(base \+ (0x[0-9a-f]+)\) && eqb \(o % 4\) 0$'), 16)
+    last = int(once(MAP, text, r'^in_memory base o = leb base o && leb o \(base \+ (0x[0-9a-f]+)\) && eqb \(o % 4\) 0$'), 16)
     line = once(MAP, text, r'^offload o = (.*)$')
-    for base, name in re.findall(r'cond \(inMemory (0x[0-9a-f]+) o\) \((\w+) \(\(o - \1\) / 4\)\)', line):
+    for base, name in re.findall(r'cond \(in_memory (0x[0-9a-f]+) o\) \((\w+) \(\(o - \1\) / 4\)\)', line):
         found[name] = f'{base} to 0x{int(base, 16) + last:03x}'
     return found
 

@@ -166,7 +166,7 @@ FILES = (
      'row Ops is keeps, ?, the table has holds, rw'),
     ('crates/model/specs/Registers.antt', 'row SdiFifo = takes Sdi', 'row SdiFifo = shows (λ s. 0)',
      'row SdiFifo is shows, ro, the table has takes, ro'),
-    ('crates/model/specs/Registers.antt', 'shown ibiConfig s = 0', 'shown ibiConfig s = s .regs .config',
+    ('crates/model/specs/Registers.antt', 'shown ibi_config s = 0', 'shown ibi_config s = s.regs.config',
      'row IbiConfig is holds, rw, the table has holds, wo'),
     ('include/thymewax.h', 'THYMEWAX_REG_OPS = 0x100', 'THYMEWAX_REG_OPS = 0x104',
      'THYMEWAX_REG_OPS is 0x104, the table has 0x100'),

@@ -9,14 +9,14 @@ import re
 COMMENT = re.compile(r'//[^\n]*|/\*.*?\*/')
 LITERAL = re.compile(r'b?"(?:[^"\\]|\\.)*"|b?\'(?:[^\'\\\n]|\\[^\'\n]+)\'')
 EITHER = re.compile(f'(?P<comment>{COMMENT.pattern})|{LITERAL.pattern}', re.S)
-CONTRACT = re.compile(r'\b(?:requires|ensures)\s*(?=\{)')
+CONTRACT = re.compile(r'\b(?:requires|ensures)\*?(?:\s+\w+)?\s*(?=\{)')
 GHOST = re.compile(r'\bghost use\b[^;]*;')
 STRUCT = re.compile(r'\bstruct (\w+)\s*(?=\{)')
 FIELD = re.compile(r'(?:pub )?(\w+):\s*(?:\w+::)?(.*)', re.S)
 ENUM = re.compile(r'\benum (\w+)\s*(?=\{)')
 CASE = re.compile(r'\w+')
-FUNCTION = re.compile(r'\bfn (\w+)\s*(?=\()')
-USED = re.compile(r'\buse (\w+)::(\w+);')
+FUNCTION = re.compile(r'\bfn (\w+)\s*(?:<[^(){};]*>\s*)?(?=\()')
+USED = re.compile(r'\buse (\w+)::(?:(\w+)|\{([\w\s,]*)\});')
 CALLED = re.compile(r'(?:\b(\w+)::)?\b(\w+)\s*(?=\()')
 PAIRS = {'(': ')', '[': ']', '{': '}'}
 
@@ -108,7 +108,7 @@ def calls_in(body: str, crate: str, used: dict[str, str]) -> tuple[Call, ...]:
 def source(path: str, text: str) -> Source:
     """A source of a crate, by its path under crates/."""
     crate, code = path.split('/')[1], code_of(text)
-    used = {name: other for other, name in USED.findall(code)}
+    used = {name: other for other, one, several in USED.findall(code) for name in [one, *parts(several)]}
     structs = {found[1]: dict(FIELD.match(part).groups() for part in parts(within(code, found.end())))
                for found in STRUCT.finditer(code)}
     enums = {found[1]: [CASE.match(part)[0] for part in parts(within(code, found.end()))] for found in ENUM.finditer(code)}

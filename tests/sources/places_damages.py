@@ -82,9 +82,12 @@ DAMAGES = (
      '    let w = words[0];\n    ring::push(r, 0, words, w)\n}\n', 'later::again indexes words, where a ring lies'),
     # harmless
     ('a comment', RING, PLACE, f'// (r.head + i) % r.cap.0\n    /* or / */ {PLACE}', ''),
-    ('a contract', RING, 'requires { ⌜ (Valid r) × (i ≤ r .cap .0) ⌝ }',
-     'requires { ⌜ (Valid r) × (record { 0 = i % 7 / 2 } .0 ≤ r .cap .0) ⌝ }', ''),
-    ('a ghost use', RING, 'ghost use Prim.Native.Nat.{_+_};', 'ghost use Prim.Native.Nat.{_+_, _%_, _/_};', ''),
+    ('a contract', RING, 'requires { (Valid r) × (i ≤ r.cap.0) }',
+     'requires { (Valid r) × (record { 0 = i % 7 / 2 }.0 ≤ r.cap.0) }', ''),
+    ('a contract with a name', RING, 'requires { (Valid r) × (i ≤ r.cap.0) }',
+     'requires place { (Valid r) × (record { 0 = i % 7 / 2 }.0 ≤ r.cap.0) }', ''),
+    ('a ghost use', RING, 'ghost use Rattle.ring.specs.Units.{words_for};',
+     'ghost use Rattle.ring.specs.Units.{words_for, ◌%◌, ◌/◌};', ''),
     ('letters', SETTLE, 'let o = e.ops;', 'let o = e.ops;\n    let slash = b\'/\';\n    let text = b"% // +";', ''),
     ('a later ring by ring', LATER, '', 'fn give(r: ring::Ring, base: usize, words: &mut [u32], w: u32) -> ring::Ring {\n'
      '    if r.cap.0 <= r.level.0 {\n        return r;\n    }\n    ring::push(r, base, words, w)\n}\n', ''),

@@ -29,6 +29,7 @@ BESIDE = ('bench/**/*.rs', 'bindings/**/*.rs', 'bindings/**/*.py', 'bindings/**/
 FOLDERS = r'(?:\.ci|bench|bindings|crates|docs|examples|include|reference|tests|tools)'
 PATH = re.compile(rf'(?<![\w/$.-]){FOLDERS}/[\w/.*-]*[\w*]')
 MADE = ('crates/NAME', 'crates/crate')  # stand for any crate
+BUILT = {'target', 'out'}
 POINT = re.compile(r'(?<![\w/`.-])(?!C99)([A-Z]\d{1,2})(?![\w.-])')
 POINTS = set(re.findall(r'\*\*([A-Z]\d{1,2}) ', pathlib.Path('docs/DECISIONS.md').read_text()))
 RULE_NAME = re.compile(r'(?<![\w./:-])([a-z]+(?:-[a-z]+)*)\.([a-z]+(?:-[a-z]+)*)(?![\w/(:.-]\w|[(\w])')
@@ -38,7 +39,7 @@ def files() -> set[str]:
     """The names of the repository's files, without those of builds."""
     found = set()
     for _, folders, names in os.walk('.'):
-        folders[:] = [folder for folder in folders if folder not in ('target', '.git', '__pycache__')]
+        folders[:] = [folder for folder in folders if folder not in (*BUILT, '.git', '__pycache__')]
         found |= set(names)
     return found
 
@@ -48,7 +49,7 @@ SUFFIXES = {name.rpartition('.')[2] for name in FILES}
 
 
 def there(path: str) -> bool:
-    return any(pathlib.Path().glob(path)) or any(pathlib.Path().glob(path + '.antt')) or 'target' in path.split('/')
+    return any(pathlib.Path().glob(path)) or any(pathlib.Path().glob(path + '.antt')) or not BUILT.isdisjoint(path.split('/'))
 
 
 def missing(token: str):
@@ -102,7 +103,7 @@ def wrong_in_source(path: pathlib.Path, known: set[str], commented: bool):
 
 def sources(patterns: tuple[str, ...]) -> list[pathlib.Path]:
     return sorted({path for pattern in patterns for path in pathlib.Path().glob(pattern)
-                   if path.is_file() and 'target' not in path.parts})
+                   if path.is_file() and BUILT.isdisjoint(path.parts)})
 
 
 def main() -> None:

@@ -43,7 +43,7 @@ def anchors(path: pathlib.Path) -> set[str]:
 
 def made(path: pathlib.Path) -> bool:
     """Whether a path of the repository is one that builds or git make."""
-    return any(part in ('target', '.git') for part in path.relative_to(ROOT).parts)
+    return any(part in ('target', 'out', '.git') for part in path.relative_to(ROOT).parts)
 
 
 def fault(page: pathlib.Path, link: str) -> str | None:

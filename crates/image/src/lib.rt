@@ -25,6 +25,7 @@ fn is_bit(image: &[u32], at: usize) -> bool
 }
 
 // The number of a phase, then kind, header, length, moved, attached and part of its transfer.
+#[tactic(auto, using(image_model::proofs::Encoded::idle_test, image_model::proofs::Encoded::open_test))]
 fn is_phase(at: u32, k: u32, a: u32, l: u32, m: u32, b: u32, p: u32) -> bool
     ensures { result ≡ same (at ∷ k ∷ a ∷ l ∷ m ∷ b ∷ p ∷ []) (phase_words (phase_in at (record { kind = kind_in k; header = eqb a 1; length = bytes l; moved = bytes m; attached = eqb b 1; part = p }))) }
 {
@@ -34,6 +35,7 @@ fn is_phase(at: u32, k: u32, a: u32, l: u32, m: u32, b: u32, p: u32) -> bool
     (at <= 5) & ((k <= 2) & ((a <= 1) & (b <= 1)))
 }
 
+#[tactic(auto, using(image_model::proofs::Encoded::encoded_by_fields))]
 pub fn is_encoded(image: &[u32]) -> bool
     requires { length image.now ≡ size }
     ensures { result ≡ encoded image.now }

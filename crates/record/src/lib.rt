@@ -21,6 +21,7 @@ fn when(right: bool, c: Call) -> Parsed
 }
 
 // The call of a record, by its fields. No right record has a field that a remainder cuts.
+#[tactic(auto, unfolding(letters::specs::Forms::forms, letters::specs::Forms::form_with))]
 pub fn named(letter: u8, zero: u8, offset: u32, v: u32, w: u32) -> Parsed
     requires { offset < 65536 }
     ensures { result ≡ named_in (form_of letter) (rec letter zero offset v w) }

@@ -58,7 +58,7 @@ pub fed_next : (s : Session) (bytes : List ℕ) (i : ℕ) → i < length bytes �
 unfolding session_fed
 fed_next s bytes i h = sym (ap (session_fed s) (take_next bytes i h) ∙ cut s (take i bytes) (get_or bytes i 0 ∷ []))
 
--- ── The loop of `feed`, and the ends of `end_line` ───────────────────────────────────────────────
+-- ── The loop of `feed` ───────────────────────────────────────────────────────────────────────────
 -- a byte of a line
 pub fed_byte_lem : (s : Session) (l : Controller) (r : Reading) (t bytes : List ℕ) (i : ℕ) → i < length bytes → session l r t ≡ session_fed s (take i bytes)
     → (get_or bytes i 0 ≡ 0x0a → ⊥) → (q : Reading) → q ≡ eat_of r (get_or bytes i 0) → session l q t ≡ session_fed s (take (i + 1) bytes)
@@ -82,30 +82,3 @@ fed_newline s l r t bytes i h e n y s' o out z q f =
 -- all bytes
 pub fed_all : (s x : Session) (bytes : List ℕ) (i : ℕ) → x ≡ session_fed s (take i bytes) → length bytes ≤ i → x ≡ session_fed s bytes
 fed_all s x bytes i e h = e ∙ ap (session_fed s) (take_all i bytes h)
-
--- the end of a line that names no call, and of one that names a call
-pub silent : (l : Controller) (r : Reading) (y : Ran) (s o t : List ℕ) → ran_told y s o ≡ ran_of l (call_read r) → y.said ≡ false
-    → session (controller y.bank s o) unread t ≡ line_end (session l r t)
-silent l r y s o t e n =
-    sym (ap (λ (x : List ℕ). session (controller y.bank s o) unread (t ++ x)) (passed y.said y.text [] n) ∙ ap (session (controller y.bank s o) unread) (append-nil t))
-    ∙ ap (λ (x : Printed). session x.controller unread (t ++ x.text)) e
-
-pub spoken : (l : Controller) (r : Reading) (y : Ran) (s o t t' : List ℕ) → ran_told y s o ≡ ran_of l (call_read r) → y.said ≡ true → t' ≡ t ++ y.text
-    → session (controller y.bank s o) unread t' ≡ line_end (session l r t)
-spoken l r y s o t t' e n z =
-    ap (session (controller y.bank s o) unread) z
-    ∙ sym (ap (λ (x : List ℕ). session (controller y.bank s o) unread (t ++ x)) (chosen y.said y.text [] n))
-    ∙ ap (λ (x : Printed). session x.controller unread (t ++ x.text)) e
-
--- ── `serve` and `run` ────────────────────────────────────────────────────────────────────────────────────────────
--- a call and its line
-pub served : (l : Controller) (c : Call) (y : Out) (s o text : List ℕ) → text ≡ answer_line y.answer → given_out y s o ≡ step rings l c
-    → with_text (controller y.bank s o) text ≡ ran_of l (Named c)
-served l c y s o text e f = ap (with_text (controller y.bank s o)) e ∙ ap (λ (x : Step Controller). with_text x.next (answer_line x.answer)) f
-
--- the call that a line names, by the variant that the code saw
-pub ran_call : (l : Controller) (x : Printed) (line found : Parsed) (c : Call) → x ≡ ran_of l (Named c) → found ≡ Named c → found ≡ line → x ≡ ran_of l line
-ran_call l x line found c e f g = e ∙ ap (ran_of l) (sym f ∙ g)
-
-pub ran_none : (l : Controller) (x : Printed) (line found : Parsed) → x ≡ ran_of l Skipped → found ≡ Skipped → found ≡ line → x ≡ ran_of l line
-ran_none l x line found e f g = e ∙ ap (ran_of l) (sym f ∙ g)

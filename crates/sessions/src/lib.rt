@@ -103,6 +103,7 @@ pub struct SessionTurn {
 }
 
 // A piece of the input: a layer, no interface. The text has room for a line a byte.
+#[tactic(auto, unfolding(crate::specs::Session::session_fed), using(crate::proofs::Cutting::fed_byte_lem, crate::proofs::Cutting::fed_newline, crate::proofs::Cutting::fed_all))]
 pub fn feed(
     b: Bank,
     store: &mut [u32],

@@ -61,6 +61,7 @@ pub fn over(stage: Stage) -> bool
 
 // The number that the end of the input gives, with so many bytes not used; 0 where all was there. Past the last record
 // no byte is held: `feed` answers it with 25.
+#[tactic(auto, unfolding(stream_model::specs::Stream::end_number))]
 fn end_number(stage: Stage, held: usize) -> u32
     ensures { result ≡ end_number stage held }
 {

@@ -9,6 +9,7 @@ ghost use Rattle.trace_model.specs.Head.{table_told, count_told, head_of};
 use trace_model::Head;
 
 // The number of asking for section i: 24, 25, 26, or 0 (`trace.refused`).
+#[tactic(auto, unfolding(trace_model::specs::Format::look_number), using(trace_model::proofs::Table::sound))]
 pub fn look_up(file: &[u8], i: u32) -> u32
     ensures { result ≡ look_number file.now i }
 {
@@ -23,6 +24,7 @@ pub fn look_up(file: &[u8], i: u32) -> u32
 }
 
 // The records of section i, as a part of the file; none where the number is not 0 (`trace.section`).
+#[tactic(auto, using(crate::proofs::Found::none_handed, crate::proofs::Found::none_starts, crate::proofs::Found::entry_there, crate::proofs::Found::starts, crate::proofs::Found::part_handed))]
 pub fn section(file: &[u8], i: u32) -> &[u8]
     ensures result_value { result.now ≡ section file.now i }
     ensures uncopied { (result.ref_ptr.0 ≡ file.entry.ref_ptr.0) × (result.ref_ptr.1 ≡ section_start file.now i + file.entry.ref_ptr.1) }
@@ -36,6 +38,7 @@ pub fn section(file: &[u8], i: u32) -> &[u8]
 }
 
 // The first byte of section i; 0 where the number is not 0.
+#[tactic(auto, using(crate::proofs::Found::none_starts, crate::proofs::Found::entry_there, crate::proofs::Found::starts))]
 pub fn section_start(file: &[u8], i: u32) -> u32
     ensures { result ≡ section_start file.now i }
 {

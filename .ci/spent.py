@@ -17,7 +17,7 @@ import sys
 import time
 
 HEAD = '| crate | proved in, s | edits |\n|---|---|---|\n'
-CRATE = re.compile(r'^(\w+)(?: \w+)*:(.*)', re.M)
+CRATE = re.compile(r'^(\w+)(?: +[\w=+]+)* *:(.*)', re.M)
 PROVED = re.compile(r'rt: (\w+) proved$')
 ENDED = re.compile(r'\d+ passed, \d+ failed')
 TABLE = re.compile(re.escape(HEAD) + r'(?:\|.*\|\n)+(?:\n.*\n)?')

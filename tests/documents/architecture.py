@@ -20,7 +20,7 @@ sys.path.insert(0, str(pathlib.Path(__file__).resolve().parents[2]))
 from tests.documents.pages import ROOT, fenced_blocks
 
 HEADING = re.compile(r'# ([a-z -]+): ')
-CRATE = re.compile(r'(\w+)(?: \w+)*:(.*)')
+CRATE = re.compile(r'(\w+)(?: +[\w=+]+)* *:(.*)')
 SHOWN = re.compile(rb'(?://|--) (crates/\S+)\n')
 NAMED = re.compile(rb'(?:pub )?(?:fn )?[\w-]+\W')
 PAGES = sorted((ROOT / 'docs').glob('*.md'))

@@ -19,7 +19,7 @@ sys.path.insert(0, str(pathlib.Path(__file__).resolve().parents[2]))
 from tests.sources.code import source
 
 HEADING = re.compile(r'# ([a-z -]+): ')
-CRATE = re.compile(r'(\w+)(?: \w+)*:')
+CRATE = re.compile(r'(\w+)(?: +[\w=+]+)* *:')
 OWN = 'plain engine'
 WITH_RINGS = ('ring engine', 'interface')
 KNOW_NO_PLACE = {'table_entries', 'faults'}

@@ -1,0 +1,15 @@
+-- `plain_decide::read_at`: the register at the offset.
+use Rattle.std.proofs.Common.{ap, ◌∙◌}
+use Rattle.registers.specs.declared.Register.{Register}
+use Rattle.model.specs.View.{tables}
+use Rattle.model.specs.Registers.{row, read}
+use Rattle.effect.specs.Effects.{verdict}
+use Rattle.effect.specs.Seen.{seen}
+use Rattle.plain_decide.proofs.read_at.Goals as goal
+
+pub returns : goal.returns
+returns c =
+    let a = c.args in
+    λ o f w.
+    let v = seen a.st (tables a.flags.now a.commands.now a.payloads.now o) f in
+    c.read.ensures o f (c.taken_word-w.ensures f w) ∙ ap (λ (x : Register). verdict (read (row x)) v) c.register_at-r.ensures

@@ -34,11 +34,6 @@ def read(name: str) -> str:
     return pathlib.Path(name).read_text()
 
 
-def upper(name: str) -> str:
-    """A name of a definition as code has it."""
-    return re.sub(r'(?=[A-Z])', '_', name).upper()
-
-
 def defined_names() -> dict[str, int]:
     return {name: int(number) for name, number in re.findall(r'^(\w+) = (\d+)$', read(DEFINED), re.M)}
 
@@ -50,7 +45,7 @@ def page_names() -> dict[int, str]:
 def names() -> list[str]:
     """The names that differ from the page's. 0 is done, and the core has no name for it."""
     page = page_names()
-    found = {DEFINED: {number: upper(name) for name, number in defined_names().items()}}
+    found = {DEFINED: {number: name.upper() for name, number in defined_names().items()}}
     for place, pattern in PLACES.items():
         found[place] = {int(number): name for name, number in re.findall(pattern, read(place), re.M)}
     return [f'{place}: {number} is {here.get(number)}, {PAGE} has {name}'

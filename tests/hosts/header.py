@@ -148,7 +148,7 @@ def answers():
 def lengths():
     """The numbers that the header has from the definitions, by their names in the header."""
     image = read(IMAGE)
-    flags, words = (int(re.search(r'eqb \(length \(k \.%s\)\) (\d+)' % table, image)[1])
+    flags, words = (int(re.search(r'eqb \(length k\.%s\) (\d+)' % table, image)[1])
                     for table in ('flags', 'commands'))
     return {'VERSION': int(re.search(r'^version = (\d+)$', read(HOST), re.M)[1]),
             'IMAGE_WORDS': int(re.search(r'^size = (\d+)$', image, re.M)[1]),

@@ -173,7 +173,7 @@ def readme():
 def image_words():
     """The places of an image's words, and how many there are, are those of the definition."""
     text = (ROOT / 'crates/image_model/specs/Image.antt').read_text()
-    defined = {name.upper(): int(place) for name, place in re.findall(r'^at(\w+) = (\d+)$', text, re.MULTILINE)}
+    defined = {name.upper(): int(place) for name, place in re.findall(r'^at_(\w+) = (\d+)$', text, re.MULTILINE)}
     equal('image words', 'places', {word.name: int(word) for word in image.ImageWord}, defined)
     size, = re.findall(r'^size = (\d+)$', text, re.MULTILINE)
     equal('image words', 'size', image.IMAGE_WORDS, int(size))

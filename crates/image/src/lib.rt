@@ -25,7 +25,7 @@ fn is_bit(image: &[u32], at: usize) -> bool
 }
 
 // The number of a phase, then kind, header, length, moved, attached and part of its transfer.
-#[tactic(auto, using(image_model::proofs::Encoded::idle_test, image_model::proofs::Encoded::open_test))]
+#[tactic(auto, using(image_model::proofs::Encoded::open_test))]
 fn is_phase(at: u32, k: u32, a: u32, l: u32, m: u32, b: u32, p: u32) -> bool
     ensures { result ≡ same (at ∷ k ∷ a ∷ l ∷ m ∷ b ∷ p ∷ []) (phase_words (phase_in at (record { kind = kind_in k; header = eqb a 1; length = bytes l; moved = bytes m; attached = eqb b 1; part = p }))) }
 {

@@ -17,10 +17,7 @@ pub put_all : (d : List ℕ) (at : ℕ) (s out : List ℕ) (n : ℕ) → out ≡
 put_all d at s out n e m h =
     ap (take (at + n)) e ∙ take-paste d at s n (omega arith) (omega arith) ∙ ap (λ (x : List ℕ). take at d ++ x) (take_all n s (omega arith))
 
--- a byte of a line, and past the last
-module _ (d : List ℕ) (at : ℕ) (s out : List ℕ) (k : ℕ) (e : out ≡ paste d at s k) (m : 12 ≡ length s) (h : at + 12 ≤ length d) where
-  pub line_next : k < 12 → set out (at + k) (get_or s k 0) ≡ paste d at s (k + 1)
-  line_next l = put_next d at s k out e (omega arith) (omega arith)
-
-  pub line_done : k ≤ 12 → 12 ≤ k → take (at + 12) out ≡ take at d ++ s
-  line_done p q = let n : k ≡ 12 = omega arith in put_all d at s out 12 (e ∙ ap (paste d at s) n) m h
+-- a byte of a line
+pub line_next : (d : List ℕ) (at : ℕ) (s out : List ℕ) (k : ℕ) → out ≡ paste d at s k → 12 ≡ length s → at + 12 ≤ length d → k < 12
+    → set out (at + k) (get_or s k 0) ≡ paste d at s (k + 1)
+line_next d at s out k e m h l = put_next d at s k out e (omega arith) (omega arith)

@@ -31,7 +31,8 @@ MADE = re.compile(r'(Need|Inv|InvT|Measure|MeasureT|After|Counts|Goes)-')
 
 def spelled(word):
     """The word in snake case."""
-    word = re.sub(r'(?<=[a-z0-9])([A-Z])', lambda m: '_' + m.group(1).lower(), word) if CAMEL.match(word) else word
+    if CAMEL.match(word):
+        word = re.sub(r'(?<=[a-z0-9])[A-Z]|(?<=[A-Z])[A-Z](?=[a-z])', lambda m: '_' + m.group(0), word).lower()
     return word.replace('-', '_')
 
 
@@ -103,22 +104,25 @@ def respell(text, table, is_rust):
     def one(m):
         return table.get(m.group(0), m.group(0))
 
-    # The name of a rule, as `set-up.numbers`, is none of these names.
-    parts = re.split(r'(`[a-z][a-z0-9-]*\.[a-z0-9-]+`)', text)
-    if len(parts) > 1:
-        return ''.join(p if i % 2 else respell(p, table, is_rust) for i, p in enumerate(parts))
-    if not is_rust:
-        text = re.sub(r'(?<=◌)[a-z][A-Za-z0-9]*(?=◌)', one, text)
-        return WORD.sub(one, text)
     # In Rust a dash is a minus, so only names without one, and whole imports.
     camel = {o: n for o, n in table.items() if '-' not in o}
+
+    def names(code):
+        if not is_rust or code.startswith('ghost use '):
+            code = re.sub(r'(?<=◌)[a-z][A-Za-z0-9]*(?=◌)', one, code)
+            return WORD.sub(one, code)
+        return re.sub(r"(?<![A-Za-z0-9_'])[A-Za-z][A-Za-z0-9_']*", lambda m: camel.get(m.group(0), m.group(0)), code)
+
+    def quoted(m):
+        # The name of a rule, as `set-up.numbers`, is none of these names.
+        return m.group(0) if re.fullmatch(r'`[a-z][a-z0-9-]*\.[a-z0-9-]+`', m.group(0)) else WORD.sub(one, m.group(0))
+
     lines = []
     for line in text.split('\n'):
-        if line.startswith('ghost use '):
-            line = re.sub(r'(?<=◌)[a-z][A-Za-z0-9]*(?=◌)', one, line)
-            lines.append(WORD.sub(one, line))
-        else:
-            lines.append(re.sub(r"(?<![A-Za-z0-9_'])[A-Za-z][A-Za-z0-9_']*", lambda m: camel.get(m.group(0), m.group(0)), line))
+        at = line.find('//' if is_rust else '--')
+        at = len(line) if at < 0 else at
+        # In a comment, which is prose, only what stands between backticks.
+        lines.append(names(line[:at]) + re.sub(r'`[^`]*`', quoted, line[at:]))
     return '\n'.join(lines)
 
 

@@ -1,4 +1,4 @@
--- A well-formed bank by its parts; its rings are valid; set_up_lem answered 0 gives one (`formed.kept`).
+-- A well-formed bank by its parts; its rings are valid; set-up answered 0 gives one (`formed.kept`).
 use Prim.Native.Nat.{ℕ, ◌≤◌}
 use native.Mathlib.Omega.{arith}
 use mathlib.Core.Path.{◌≡◌, refl}
@@ -87,7 +87,7 @@ answered_0 : (b : Bool) (x y : SetUp) → y.answer.number ≡ 23 → (cond b x y
 answered_0 true x y e h = refl
 answered_0 false x y e h = absurd (omega arith)
 
--- a set_up_lem answered 0 has its numbers in range
+-- a set-up answered 0 has its numbers in range
 pub in_range : (c m : Sizes) (id : ℕ) → (set_up c m id).answer.number ≡ 0 → (leb id 255 && sizes_ok c m) ≡ true
 unfolding set_up
 in_range c m id h = answered_0 (leb id 255 && sizes_ok c m) (record { bank = bank_of c m true id; answer = record { value = 0; number = 0 } }) refused_set_up refl h

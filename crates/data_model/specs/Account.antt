@@ -139,7 +139,7 @@ pub record DataAccount (l : Ledger) (in_sdo in_sdi : List ℕ) : Type 0 where
 abbrev pub KeepsData : Ledger → Controller → Type 0
 KeepsData l c = let a = areas (queues_in c.bank) in DataAccount l (words_in a.sdo c.store) (words_in a.sdi c.store)
 
--- Demand 3's lists: any set_up_lem answered 0, any store, calls with any outputs lent. A list that ends released has a ledger; each beginning of
+-- Demand 3's lists: any set-up answered 0, any store, calls with any outputs lent. A list that ends released has a ledger; each beginning of
 -- it is a list too, so the claims hold at every moment from a release to the next reset.
 unfoldable pub DataKept : Type 0
 DataKept =

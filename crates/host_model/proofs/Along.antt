@@ -45,7 +45,7 @@ pub hosted_along : HostedAlong
 unfolding HostedAlong
 hosted_along l cs t w = along cs l (typed_of l.bank t) w
 
--- the bank of a set_up_lem answered 0
+-- the bank of a set-up answered 0
 pub fresh_typed : (caps marks : Sizes) (id : ℕ) → (set_up caps marks id).answer.number ≡ 0 → Typed (set_up caps marks id).bank
 fresh_typed caps marks id z =
     let i = (and-true (leb id 255) (sizes_ok caps marks) (in_range caps marks id z)).0 in

@@ -57,7 +57,7 @@ module _ {S : Type 0} (f : S → Call → Answer → S) (g : S → Controller �
           ∙ ap (λ (x : S). record { count = x; kept = kept_of e.bank; store = e.store }) (sym (goes s l lent (named qs)))
       go Skipped rest = ap (after Skipped) (unnamed l.bank l.store q.output t w) ∙ rest s l t w
 
-  -- what holds of the model's list from the same set_up_lem holds of the host's
+  -- what holds of the model's list from the same set-up holds of the host's
   from_set_up : (P : S → Controller → Type 0) (k : Kept) (caps marks : Sizes) (id : ℕ) (store : List ℕ) (qs : List Asked) (s : S) → (set_up_in k caps marks id).number ≡ 0
       → (let l = fresh_controller caps marks id store in (set_up caps marks id).answer.number ≡ 0 → P (g s l (named qs)) (controller (final rings l (named qs)).bank (final rings l (named qs)).store []))
       → (let r = counted f s (set_up_in k caps marks id).kept store qs in P r.count (left_with r))

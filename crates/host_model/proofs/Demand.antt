@@ -80,7 +80,7 @@ unfolding final StaysWellFormed KeptIsRead
 stays [] l t w = (kept_is_read l.bank (typed_is l.bank t) w).1
 stays (c ∷ cs) l t w = let m = rings.lend c.output l in stays cs (step_lent rings l c).next (step_typed m c.call t) (stays_well_formed m c.call w)
 
--- ── From a set_up_lem ─────────────────────────────────────────────────────────────────────────────────────────────
+-- ── From a set-up ─────────────────────────────────────────────────────────────────────────────────────────────
 pub answered_0 : (k : Kept) (caps marks : Sizes) (id : ℕ) → (set_up_in k caps marks id).number ≡ 0 → (sized k ≡ true) × ((set_up caps marks id).answer.number ≡ 0)
 unfolding set_up_in
 answered_0 k caps marks id z = go (sized k) refl z

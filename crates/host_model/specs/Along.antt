@@ -36,7 +36,7 @@ model_ran l cs = let f = final rings l cs in ran (answers rings l cs) (kept_of f
 unfoldable pub HostedAlong : Type 0
 HostedAlong = (l : Controller) (cs : List Lent) → in_types l.bank ≡ true → well_formed l.bank ≡ true → host_ran (kept_of l.bank) l.store cs ≡ model_ran l cs
 
--- from a set_up_lem into any words and bytes of their lengths, with any store
+-- from a set-up into any words and bytes of their lengths, with any store
 unfoldable pub HostedFromSetUp : Type 0
 HostedFromSetUp = (k : Kept) (caps marks : Sizes) (id : ℕ) (store : List ℕ) (cs : List Lent) → sized k ≡ true → (set_up caps marks id).answer.number ≡ 0
     → host_ran (set_up_in k caps marks id).kept store cs ≡ model_ran (fresh_controller caps marks id store) cs

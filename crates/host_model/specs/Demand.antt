@@ -38,7 +38,7 @@ counted o k st (q ∷ qs) =
     let h = step_in p k st q.output in
     counted (follow o (event_of p h.answer)) h.kept h.store qs
 
--- from a set_up_lem answered 0 into anything, with any store: the bank that is said last and the last store keep the demand
+-- from a set-up answered 0 into anything, with any store: the bank that is said last and the last store keep the demand
 unfoldable pub HostKeepsDemand : Type 0
 HostKeepsDemand =
     (k : Kept) (caps marks : Sizes) (id : ℕ) (store : List ℕ) (qs : List Asked) (t : Tally)

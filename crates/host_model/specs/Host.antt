@@ -27,7 +27,7 @@ pub record Fresh : Type 0 where
   pub number : ℕ
   pub kept : Kept
 
--- a set_up_lem answered 23 leaves what is kept as it was, and so does 21, where a piece has another length
+-- a set-up answered 23 leaves what is kept as it was, and so does 21, where a piece has another length
 unfoldable pub set_up_in : Kept → Sizes → Sizes → ℕ → Fresh
 set_up_in k caps marks id =
     let r = set_up caps marks id in
@@ -75,7 +75,7 @@ pub record Replayed : Type 0 where
   pub store : List ℕ
   pub told : List ℕ
 
--- on the bank that is said. What is kept of no well-formed bank stands for the bank of a refused set_up_lem: it is not well formed, so each record
+-- on the bank that is said. What is kept of no well-formed bank stands for the bank of a refused set-up: it is not well formed, so each record
 -- is answered 21, as `step_in` answers its call
 abbrev pub bank_for : Kept → Bank
 bank_for k = cond (is_kept k) (bank_in k) refused_set_up.bank

@@ -12,7 +12,7 @@ use Rattle.model.specs.Bursts.{short_in_burst, trigger, burst_send, burst_receiv
 use Rattle.model.specs.Engine.{step, lending, final}
 use Rattle.model.specs.Rings.{on_ring, on_store, guard_rings}
 
--- set_up_lem, and whether a bank is well formed
+-- set-up, and whether a bank is well formed
 unfoldable pub banks : Unit {0}
 unfolding entries caps_ok marks_ok sizes_ok set_up queues_ok regs_ok flags_ok phase_ok burst_ok open_ok all_carried reads_in queues_clear control_clear reset_ok well_formed
 banks = tt

@@ -22,7 +22,7 @@ use Rattle.model.specs.Engine.{Step, step}
 use Rattle.model.specs.Rings.{Controller, on_ring, on_store, view_rings, settle_rings, guard_rings, rings}
 use Rattle.model.specs.Laws.{StaysWellFormed, same_queue}
 use Rattle.model.specs.Cases.{answered, all_hold}
-use Rattle.model.specs.Watermarks.{marks_cell, marks_row, marks, WatermarksStay, WatermarkBound, with_mark, WatermarkAlone, each_its_own_mark, up_to_the_capacity, sources_follow, while_aBurst_is_open, WatermarksWork}
+use Rattle.model.specs.Watermarks.{marks_cell, marks_row, marks, WatermarksStay, WatermarkBound, with_mark, WatermarkAlone, each_its_own_mark, up_to_the_capacity, sources_follow, while_a_burst_is_open, WatermarksWork}
 use Rattle.model.specs.Driver.{PlainWriteTaken}
 use Rattle.model.proofs.Steps.{steps}
 use Rattle.model.proofs.Tests.{of_two}
@@ -133,5 +133,5 @@ watermark_alone l o v q e n =
 
 -- ── Worked by hand ────────────────────────────────────────────────────────────────────────────────────────────
 pub watermarks_work : WatermarksWork
-unfolding steps answered all_hold each_its_own_mark up_to_the_capacity sources_follow while_aBurst_is_open WatermarksWork
+unfolding steps answered all_hold each_its_own_mark up_to_the_capacity sources_follow while_a_burst_is_open WatermarksWork
 watermarks_work = refl

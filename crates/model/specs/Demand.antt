@@ -132,7 +132,7 @@ abbrev pub nothing : Tally
 nothing = record { words = record { written = []; room_seen = false; credit = 0 }; past = []; now = none; receipts = [] }
 
 -- `demand.counted`, and 01's terms reset and release, told by writes to ENABLE answered 0: one with bit 0 set is a reset; one with bit 0
--- clear is a release where none came since set_up_lem or the last reset. none: in reset, and nothing counts.
+-- clear is a release where none came since set-up or the last reset. none: in reset, and nothing counts.
 abbrev pub follow : Option Tally → Event → Option Tally
 follow none (enabled true) = none
 follow none (enabled false) = some nothing
@@ -258,7 +258,7 @@ module _ {B : Type 0} (g : Engine B) where
 abbrev pub direct_phase : Control → Phase → Phase
 direct_phase c p = cond (bursting c) Idle p
 
--- Demand 3, of every list that ends released, so that its tally is some t, from a fresh bank: 01's term for the bank of any set_up_lem answered
+-- Demand 3, of every list that ends released, so that its tally is some t, from a fresh bank: 01's term for the bank of any set-up answered
 -- 0, with any words in its store. `demand.bursts`: triggers may be in the list, and each call is lent any output.
 unfoldable pub Demand : Type 0
 Demand =

@@ -40,7 +40,7 @@ unfoldable pub last_read : Queue → Controller → List Lent → ℕ → ℕ
 last_read k l [] w = w
 last_read k l (c ∷ cs) w = let r = step_lent rings l c in last_read k r.next cs (last_by k c.call r.answer w)
 
--- From any set_up_lem, along every list of calls each lent any output, with any store: a read of the queue k that is answered 3 shows the word
+-- From any set-up, along every list of calls each lent any output, with any store: a read of the queue k that is answered 3 shows the word
 -- last read from it since the last reset, 0 where none was.
 unfoldable pub EmptyShowsLast : Type 0
 EmptyShowsLast =

@@ -16,11 +16,11 @@ use Rattle.model.specs.Engine.{Step, step, Lent, final, answers}
 use Rattle.model.specs.Rings.{Controller, areas, words_in, view_rings, rings}
 use Rattle.model.specs.Lists.{ListQueue, Lists, lists}
 
--- the ring engine right after a set_up_lem, with any store
+-- the ring engine right after a set-up, with any store
 abbrev pub fresh_controller : Sizes → Sizes → ℕ → List ℕ → Controller
 fresh_controller caps marks id store = record { bank = (set_up caps marks id).bank; store = store; output = [] }
 
--- the list engine after the same set_up_lem: every queue is an empty list
+-- the list engine after the same set-up: every queue is an empty list
 abbrev pub empty_queue : ℕ → ListQueue
 empty_queue cap = record { cap = cap; words = [] }
 
@@ -29,7 +29,7 @@ fresh_lists c m id =
     let v = view_rings (fresh_controller c m id []) in
     record { regs = v.regs; control = v.control; phase = v.phase; tables = v.tables; queues = each (empty_queue c.cmd) (empty_queue c.cmdr) (empty_queue c.sdo) (empty_queue c.sdi) (empty_queue c.ibi) }
 
--- `queue.order`: from the same set_up_lem answered 0, with a store of the right length and any contents, both engines give equal answers along
+-- `queue.order`: from the same set-up answered 0, with a store of the right length and any contents, both engines give equal answers along
 -- every list of calls, and each ring then holds the words of its list.
 pub record Agreement (caps marks : Sizes) (id : ℕ) (store : List ℕ) (cs : List Lent) : Type 0 where
   pub same_answers : answers rings (fresh_controller caps marks id store) cs ≡ answers lists (fresh_lists caps marks id) cs
@@ -62,7 +62,7 @@ unfoldable pub RefusalShowsNothing : Type 0
 RefusalShowsNothing =
     (l : Controller) (c : Call) → let r = step rings l c in (r.answer.number ≡ 0 → ⊥) → (r.answer.number ≡ number.empty → ⊥) → (r.answer.number ≡ number.wrong_parity → ⊥) → r.answer.value ≡ 0
 
--- `formed.kept`: set_up_lem answered 0 gives a well-formed bank, every call keeps it so, and store and output keep their lengths
+-- `formed.kept`: set-up answered 0 gives a well-formed bank, every call keeps it so, and store and output keep their lengths
 unfoldable pub SetUpWellFormed : Type 0
 SetUpWellFormed = (caps marks : Sizes) (id : ℕ) → (set_up caps marks id).answer.number ≡ 0 → well_formed (set_up caps marks id).bank ≡ true
 

@@ -85,7 +85,7 @@ WatermarkAlone =
     → let m = (step rings l (Write o v)).next in (m ≡ with_mark q (v % 2 ^ 16) l) × ((step rings m (Read 0x088)).answer.value ≡ sources 0xff (view_rings (with_mark q (v % 2 ^ 16) l)))
 
 -- ── Worked sessions ───────────────────────────────────────────────────────────────────────────────────────────
--- the first values are those of the set_up_lem; each register has its own, in reset too, and a reset leaves them
+-- the first values are those of the set-up; each register has its own, in reset too, and a reset leaves them
 unfoldable pub each_its_own_mark : Case
 each_its_own_mark =
     [] then Read 0x200 ⇝ 1 · 0 ∷ Read 0x204 ⇝ 3 · 0 ∷ Read 0x208 ⇝ 1 · 0 ∷ Read 0x20c ⇝ 3 · 0 ∷ Read 0x210 ⇝ 3 · 0
@@ -106,10 +106,10 @@ sources_follow =
     ∷ Write 0x208 0 ⇝ 0 · 0 ∷ Read 0x088 ⇝ 0x60 · 0 ∷ Write 0x20c 0 ⇝ 0 · 0 ∷ Read 0x088 ⇝ 0x68 · 0 ∷ Write 0x210 0 ⇝ 0 · 0 ∷ Read 0x088 ⇝ 0x78 · 0 ∷ []
 
 -- an open burst holds none of them
-unfoldable pub while_aBurst_is_open : Case
-while_aBurst_is_open =
+unfoldable pub while_a_burst_is_open : Case
+while_a_burst_is_open =
     release ∷ device8 ∷ Write 0x2c0 0x110 ∷ Write 0x100 0x03 ∷ Trigger ∷ []
     then Write 0x100 0 ⇝ 0 · 6 ∷ Write 0x208 2 ⇝ 0 · 0 ∷ Write 0x208 5 ⇝ 0 · 30 ∷ Read 0x208 ⇝ 2 · 0 ∷ []
 
 unfoldable pub WatermarksWork : Type 0
-WatermarksWork = all_hold (each_its_own_mark ∷ up_to_the_capacity ∷ sources_follow ∷ while_aBurst_is_open ∷ []) ≡ true
+WatermarksWork = all_hold (each_its_own_mark ∷ up_to_the_capacity ∷ sources_follow ∷ while_a_burst_is_open ∷ []) ≡ true

@@ -89,7 +89,7 @@ not_well_formed = 21
 abbrev pub store_length : ℕ
 store_length = 22
 
--- a set_up_lem number is out of range
+-- a set-up number is out of range
 abbrev pub set_up_out_of_range : ℕ
 set_up_out_of_range = 23
 

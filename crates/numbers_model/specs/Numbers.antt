@@ -78,7 +78,7 @@ pub record Answered (l : Controller) (c : Call) : Type 0 where
   pub unchanged : among (step rings l c).answer.number (ends c) ≡ false → (step rings l c).next ≡ l
   pub silent : among (step rings l c).answer.number (ends c ++ valued c) ≡ false → (step rings l c).answer.value ≡ 0
 
--- of every call, and of set_up_lem (`set-up.fresh`, `set-up.refused`)
+-- of every call, and of set-up (`set-up.fresh`, `set-up.refused`)
 pub record Demand1 : Type 0 where
   pub calls : (l : Controller) (c : Call) → Answered l c
   pub set_ups : (caps marks : Sizes) (id : ℕ) → let a = (set_up caps marks id).answer in (among a.number (0 ∷ number.set_up_out_of_range ∷ []) ≡ true) × (a.value ≡ 0)

@@ -27,7 +27,7 @@ fresh c = upon worked_session [] c
 abbrev after : List Call → Call → Try
 after cs c = upon worked_session (release ∷ device8 ∷ cs) c
 
--- the bank of a refused set_up_lem, and a store of no words
+-- the bank of a refused set-up, and a store of no words
 abbrev ill_formed : Call → Try
 ill_formed c = upon (record { bank = (set_up (sizes 0 0 0 0 0) (sizes 0 0 0 0 0) 0).bank; store = []; output = [] }) [] c
 

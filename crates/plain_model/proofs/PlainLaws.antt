@@ -29,8 +29,8 @@ use Rattle.plain_model.proofs.OneQueue.{words_at_0}
 use Rattle.plain_model.proofs.FiveQueues.{length_all}
 use Rattle.plain_model.proofs.Beside.{Beside, beside_formed, stays_beside, lent_same, lent_stays}
 
--- ── From one set_up_lem ───────────────────────────────────────────────────────────────────────────────────────────
--- the same set_up_lem, before any call: all queues are empty
+-- ── From one set-up ───────────────────────────────────────────────────────────────────────────────────────────
+-- the same set-up, before any call: all queues are empty
 fresh_beside : (caps marks : Sizes) (id : ℕ) (store store' : List ℕ) → (set_up caps marks id).answer.number ≡ 0
     → length store ≡ total (set_up caps marks id).bank.state.caps → length store' ≡ total (set_up caps marks id).bank.state.caps
     → Beside (fresh_controller caps marks id store) (fresh_plain caps marks id store')

@@ -31,7 +31,7 @@ pub record MovesWork : Type 0 where
   pub pushed : three_after (push 14) ≡ 90 ∷ 91 ∷ 11 ∷ 12 ∷ 13 ∷ 14 ∷ 0 ∷ 92 ∷ []
   pub both : three_after (push2 14 15) ≡ 90 ∷ 91 ∷ 11 ∷ 12 ∷ 13 ∷ 14 ∷ 15 ∷ 92 ∷ []
 
--- ── Calls from a set_up_lem of five areas of four, in a store of sevens ───────────────────────────────────────────
+-- ── Calls from a set-up of five areas of four, in a store of sevens ───────────────────────────────────────────
 abbrev pub sevens : Plain
 sevens = fresh_plain (sizes 4 4 4 4 4) (sizes 1 3 1 3 3) 0 (replicate 20 7)
 

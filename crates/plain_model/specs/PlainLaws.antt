@@ -24,14 +24,14 @@ use Rattle.plain_model.specs.Plain.{Plain, plain_formed, plain}
 abbrev pub headless : Bank → PlainBank
 headless b = record { state = b.state; flags = b.flags; commands = b.commands; payloads = b.payloads }
 
--- the plain engine right after a set_up_lem, with any store
+-- the plain engine right after a set-up, with any store
 abbrev pub fresh_plain : Sizes → Sizes → ℕ → List ℕ → Plain
 fresh_plain caps marks id store = record { bank = headless (set_up caps marks id).bank; store = store; output = [] }
 
 abbrev pub plain_words_of : Queue → Plain → List ℕ
 plain_words_of k p = plain_words (of k (plain_areas p.bank.state.caps p.bank.state.levels)) p.store
 
--- `plain.agrees`: one set_up_lem answered 0, each engine with a store of its own, of the right length and any contents. After any list of calls,
+-- `plain.agrees`: one set-up answered 0, each engine with a store of its own, of the right length and any contents. After any list of calls,
 -- and so after every call of it, answers, banks but for heads, each queue's words in order, and outputs are equal.
 pub record PlainAgreement (caps marks : Sizes) (id : ℕ) (store store' : List ℕ) (cs : List Lent) : Type 0 where
   pub same_answers : answers rings (fresh_controller caps marks id store) cs ≡ answers plain (fresh_plain caps marks id store') cs

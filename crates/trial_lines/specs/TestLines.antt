@@ -23,7 +23,7 @@ test_letter_read b =
     cond (eqb b 0x42) (test_letter 0x42 0)
     (cond (eqb b 0x47) (test_letter 0x47 0) (cond (eqb b 0x4f) (test_letter 0x4f 2) (cond (eqb b 0x50) (test_letter 0x50 1) (eat_of unread b))))
 
--- the next field of a set_up_lem begins, of eight digits
+-- the next field of a set-up begins, of eight digits
 abbrev pub next_field : Line → Line
 next_field x =
     let dead = line_with skipped x.at x.values in
@@ -42,7 +42,7 @@ letter_named x =
     let r = x.reading in
     cond (r.bare || not (eqb r.next 0) || (eqb r.letter 0x42 && not (eqb x.at 11))) 0 r.letter
 
--- five numbers of a set_up_lem, from the one at place i on
+-- five numbers of a set-up, from the one at place i on
 abbrev pub five_from : ℕ → List ℕ → Sizes
 five_from i v = record { cmd = get_or v i 0; cmdr = get_or v (i + 1) 0; sdo = get_or v (i + 2) 0; sdi = get_or v (i + 3) 0; ibi = get_or v (i + 4) 0 }
 

@@ -1,0 +1,6 @@
+-- There is always room for a line on the page.
+use Rattle.std.proofs.Common.{◌+◌, ◌≤◌}
+use Rattle.sampling.proofs.main.Given as goal
+
+abbrev pub invariant-loop-sample : goal.invariant-loop-sample
+invariant-loop-sample l = l.at + 44 ≤ 4096

@@ -30,6 +30,7 @@ FOLDERS = r'(?:\.ci|bench|bindings|crates|docs|examples|include|reference|tests|
 PATH = re.compile(rf'(?<![\w/$.-]){FOLDERS}/[\w/.*-]*[\w*]')
 MADE = ('crates/NAME', 'crates/crate')  # stand for any crate
 BUILT = {'target', 'out'}
+OF_KIT = ('libc::', 'os::')  # functions of its libraries
 POINT = re.compile(r'(?<![\w/`.-])(?!C99)([A-Z]\d{1,2})(?![\w.-])')
 POINTS = set(re.findall(r'\*\*([A-Z]\d{1,2}) ', pathlib.Path('docs/DECISIONS.md').read_text()))
 RULE_NAME = re.compile(r'(?<![\w./:-])([a-z]+(?:-[a-z]+)*)\.([a-z]+(?:-[a-z]+)*)(?![\w/(:.-]\w|[(\w])')
@@ -58,7 +59,7 @@ def missing(token: str):
         if token not in EDITS and not there(token):
             yield f'no must-fail edit {token}'
     elif re.fullmatch(r'\w+::(?:\w+::)*(?:\w+|\{[\w, ]+\})', token):
-        yield from () if token.startswith('libc::') else missing_functions(token)
+        yield from () if token.startswith(OF_KIT) else missing_functions(token)
     elif re.fullmatch(r'(?:\w+: )?[A-Z]\w*: [^:]+', token):
         yield from missing_definitions(token)
     elif re.fullmatch(r'\w+: [^:]+', token):

@@ -6,11 +6,11 @@ use lib.Dec.{eqb}
 use Rattle.model.specs.Rings.{Controller}
 use Rattle.letters.specs.declared.Parsed.{Parsed}
 use Rattle.lines.specs.declared.Reading.{Reading}
-use Rattle.lines.specs.Lines.{before, behind, line_names}
-use Rattle.lines.specs.Automaton.{unread, eat_of, reading_of, call_read}
+use Rattle.lines.specs.Lines.{before, behind}
+use Rattle.lines.specs.Automaton.{unread, eat_of, reading_of}
 use Rattle.lines.proofs.Choices.{chosen, passed, split}
 use Rattle.lines.proofs.Grammar.{reads_the_grammar}
-use Rattle.sessions.specs.Session.{Printed, with_text, ran_of, Session, session, line_end, fed_byte, session_fed, after_line, EachLineIsRead}
+use Rattle.sessions.specs.Session.{Printed, with_text, ran_of, Session, session, line_end, session_fed, after_line, EachLineIsRead}
 
 abbrev between : Printed → Session
 between t = session t.controller unread t.text

@@ -7,18 +7,12 @@ use lib.Dec.{eqb}
 use lib.ListN.{length, get_or, take}
 use lib.Seq.{take_all}
 use borrow.Author.Tests.{eq-eqb, ne_eqb}
-use Rattle.model.specs.declared.Call.{Call}
-use Rattle.model.specs.Engine.{Step, step}
-use Rattle.model.specs.Rings.{Controller, rings}
-use Rattle.answer.specs.declared.Out.{Out}
-use Rattle.answer.specs.Given.{controller, given_out}
-use Rattle.letters.specs.declared.Parsed.{Parsed}
-use Rattle.letters.specs.declared.Parsed.TheVariants.{Named, Skipped}
+use Rattle.model.specs.Rings.{Controller}
+use Rattle.answer.specs.Given.{controller}
 use Rattle.lines.specs.declared.Reading.{Reading}
-use Rattle.sessions.specs.declared.Ran.{Ran}
 use Rattle.sessions.specs.declared.Ended.{Ended}
 use Rattle.lines.specs.Automaton.{unread, eat_of, call_read}
-use Rattle.sessions.specs.Session.{Printed, with_text, answer_line, ran_of, ran_told, ended_session, Session, session, line_end, fed_byte, session_fed}
+use Rattle.sessions.specs.Session.{ran_of, ended_session, Session, session, line_end, fed_byte, session_fed}
 use Rattle.lines.proofs.Choices.{chosen, passed}
 use Rattle.lines.proofs.Bytes.{take_next}
 

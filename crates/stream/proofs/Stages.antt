@@ -1,5 +1,5 @@
--- A piece at each stage, and the first piece by what its head tells.
-use Prim.Native.Nat.{ℕ, ◌+◌, ◌-◌, ◌<◌, ◌≤◌}
+-- The first piece by what its head tells.
+use Prim.Native.Nat.{ℕ, ◌+◌, ◌-◌, ◌≤◌}
 use native.Mathlib.Omega.{arith}
 use mathlib.Core.Path.{◌≡◌, ap, sym, ◌∙◌}
 use mathlib.Core.List.{List, []}
@@ -8,40 +8,18 @@ use lib.Seq.{take_all}
 use Rattle.bank.specs.declared.Bank.{Bank}
 use Rattle.answer.specs.Given.{controller}
 use Rattle.trace_model.specs.declared.Head.{Head}
-use Rattle.trace_model.specs.declared.Head.TheVariants.{More, Wrong, Right}
+use Rattle.trace_model.specs.declared.Head.TheVariants.{Wrong, Right}
 use Rattle.trace_model.specs.Head.{head_of}
-use Rattle.trace_model.proofs.Heads.{more_short, right_within}
-use Rattle.stream_model.specs.declared.Stage.{Stage}
-use Rattle.stream_model.specs.declared.Stage.TheVariants.{Opening, Records, Over}
-use Rattle.stream_model.specs.Stream.{Stream, stream, over, records_of, opened_by, stream_fed}
+use Rattle.trace_model.proofs.Heads.{right_within}
+use Rattle.stream_model.specs.Stream.{Stream, stream, over, records_of, opened_by}
 use Rattle.stream_end.specs.declared.StreamTurn.{StreamTurn}
 use Rattle.stream_end.specs.Given.{fed_by}
 
-module _ (b : Bank) (store bytes : List ℕ) (stage : Stage) where
-  pub at_opening : (x : Stream) → stage ≡ Opening → x ≡ opened_by (controller b store []) bytes (head_of bytes) → x ≡ stream_fed (controller b store []) stage bytes
-  unfolding stream_fed
-  at_opening x e f = f ∙ ap (λ (z : Stage). stream_fed (controller b store []) z bytes) (sym e)
-
-  pub at_records : (x : Stream) (due : ℕ) → stage ≡ Records due → x ≡ records_of (controller b store []) due bytes → x ≡ stream_fed (controller b store []) stage bytes
-  unfolding stream_fed
-  at_records x due e f = f ∙ ap (λ (z : Stage). stream_fed (controller b store []) z bytes) (sym e)
-
-  pub at_end : stage ≡ Over → stream (controller b store []) Over (length bytes) [] ≡ stream_fed (controller b store []) stage bytes
-  unfolding stream_fed
-  at_end e = ap (λ (z : Stage). stream_fed (controller b store []) z bytes) (sym e)
-
--- ── The first piece ───────────────────────────────────────────────────────────────────────────────────────────
 module _ (bytes : List ℕ) (found : Head) (is : found ≡ head_of bytes) where
-  pub head_short : found ≡ More → length bytes < 518
-  head_short e = more_short bytes (sym is ∙ e)
-
   pub head_there : (n records : ℕ) → found ≡ Right n records → n ≤ length bytes
   head_there n records e = right_within bytes n records (sym is ∙ e)
 
   module _ (b : Bank) (store : List ℕ) where
-    pub head_more : found ≡ More → stream (controller b store []) Opening 0 [] ≡ opened_by (controller b store []) bytes (head_of bytes)
-    head_more e = ap (opened_by (controller b store []) bytes) (sym (sym is ∙ e))
-
     pub head_wrong : (x : Stream) (number : ℕ) → found ≡ Wrong number → x ≡ over (controller b store []) bytes [] number → x ≡ opened_by (controller b store []) bytes (head_of bytes)
     head_wrong x number e f = f ∙ ap (opened_by (controller b store []) bytes) (sym (sym is ∙ e))
 

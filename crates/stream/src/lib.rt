@@ -46,6 +46,7 @@ fn open(b: Bank, store: &mut [u32], bytes: &[u8], out: &mut [u8]) -> StreamTurn
 
 // A piece of the input, behind the bytes of the last piece that were not used: a layer, no interface. The text has room
 // for a line for each record, and one more; less than 518 bytes are left.
+#[tactic(auto, unfolding(stream_model::specs::Stream::stream_fed))]
 pub fn feed(b: Bank, store: &mut [u32], stage: Stage, bytes: &[u8], out: &mut [u8]) -> StreamTurn
     requires { length bytes.now + 12 ≤ length out.old }
     ensures { (fed_left result store out ≡ stream_fed (bank_lent_store b store) stage bytes.now) × Bounded 518 result bytes out }

@@ -1,0 +1,19 @@
+-- A wrong head, and the records behind a right one.
+use Rattle.std.proofs.Common.{arith}
+use Rattle.stream.proofs.Stages.{head_there, head_wrong, head_right, rest_length}
+use Rattle.stream.proofs.open.Goals as goal
+
+pub returns-in-Wrong : goal.returns-in-Wrong
+returns-in-Wrong c =
+    (head_wrong _ _ c.read_head.ensures _ _ _ _ c.in-Wrong.is (c.close.ensures.0 _), (omega arith, omega arith, omega arith))
+
+pub returns : goal.returns
+returns c =
+    let a = c.args in
+    let r = c.in-Right in
+    let y = c.feed_records-f in
+    let there = head_there a.bytes.now _ c.read_head.ensures r.len _ r.is in
+    let rest = rest_length r.len a.bytes.now in (
+      head_right a.bytes.now _ c.read_head.ensures a.b a.store.now y.result _ _ r.len _ r.is y.ensures.0,
+      (omega arith, omega arith, omega arith),
+    )

@@ -13,6 +13,7 @@ use bank::{Answer, Heads, State};
 use replayed::Reached;
 
 // The words of an image, or zeros for one of another length.
+#[tactic(auto, using(image_model::proofs::Fill::fill_next))]
 fn words_of(image: &[u32]) -> [u32; 43]
     ensures { (length result ≡ 43) × (length image.now ≡ 43 → result ≡ image.now) }
 {
@@ -27,6 +28,7 @@ fn words_of(image: &[u32]) -> [u32; 43]
 }
 
 // Heads as they are, or with one past every queue.
+#[tactic(auto, using(crate::proofs::Heads::past_all))]
 fn heads_if(said: bool, h: Heads) -> Heads
     ensures { (said ≡ true → result ≡ h) × (said ≡ false → (s : State) (fs cs ps : List ℕ) → well_formed (record { state = s; heads = result; flags = fs; commands = cs; payloads = ps }) ≡ false) }
 {

@@ -16,7 +16,6 @@ use letters::Parsed;
 use model::Call;
 
 // A set-up. Where it is done, image and tables take its bank.
-#[tactic(auto, unfolding(host_model::specs::Host::set_up_in, image_model::specs::Image::kept_of))]
 pub fn set_up(
     image: &mut [u32],
     flags: &mut [u8; 128],
@@ -45,7 +44,6 @@ pub fn set_up(
 }
 
 // The call that numbers name.
-#[tactic(auto, unfolding(host_model::specs::Host::call_of), using(host_model::proofs::Calling::unfit))]
 fn call_of(letter: u32, offset: u32, first: u32, second: u32) -> Parsed
     ensures { result ≡ call_of letter offset first second }
 {
@@ -59,7 +57,6 @@ fn call_of(letter: u32, offset: u32, first: u32, second: u32) -> Parsed
 }
 
 // A call on a well-formed bank, whose image is then written.
-#[tactic(auto, unfolding(image_model::specs::Image::kept_of))]
 fn make(
     s: State,
     h: Heads,
@@ -81,7 +78,6 @@ fn make(
 }
 
 // One call, on words of a state and tables: the bank is tested where the tables lie.
-#[tactic(auto, unfolding(host_model::specs::Host::step_in, image_model::specs::Image::is_kept, image_model::specs::Image::bank_in))]
 pub fn step(
     image: &mut [u32],
     flags: &mut [u8; 128],

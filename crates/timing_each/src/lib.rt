@@ -16,7 +16,7 @@ use letters::Parsed;
 use model::Call;
 use playback_model::Report;
 
-// A call in place on a bank in a local. A function of its own: only this one has a proof by hand.
+// A call in place on a bank in a local.
 fn step_once(b: Bank, call: Call, store: &mut [u32], output: &mut [u32]) -> Out
     ensures { given_out result store.new output.new ≡ step rings (controller b store.old output.old) call }
 {

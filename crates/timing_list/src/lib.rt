@@ -12,7 +12,7 @@ ghost use Rattle.timing.specs.Timing.{timed, timed_of};
 use bank::Bank;
 use replayed::Replayed;
 
-// A replay in place on a bank in a local. A function of its own: only this one has a proof by hand.
+// A replay in place on a bank in a local.
 fn replay_once(b: Bank, store: &mut [u32], file: &[u8], i: u32, limit: usize) -> Replayed
     ensures { replayed_out result store.new ≡ replay_of file.now i limit (controller b store.old []) }
 {

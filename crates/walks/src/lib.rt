@@ -1,3 +1,4 @@
-// Rules for proofs that walk through MIR by hand, as calls in place need them, over any types, values and locals.
-// Proofs alone: no code, and nothing of the controller.
+// Rules for proofs that walk through MIR by hand, over any types, values and locals, where the check finds no proof of
+// lent memory by itself. Calls in place stood on them; no crate does now. Proofs alone: no code, and nothing of the
+// controller.
 #![tactic(auto)]

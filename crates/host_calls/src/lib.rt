@@ -12,7 +12,6 @@ ghost use Rattle.host_model.specs.Host.{set_up_in, call_of, hosted};
 ghost use Rattle.host_parts.specs.Lent.{kept_lent, kept_left, lent_all, left_all, fresh, gave, packed_step, step_on};
 
 use bank::{Heads, Sizes, State};
-use letters::Parsed;
 use model::Call;
 
 // A set-up. Where it is done, image and tables take its bank.
@@ -44,14 +43,14 @@ pub fn set_up(
 }
 
 // The call that numbers name.
-fn call_of(letter: u32, offset: u32, first: u32, second: u32) -> Parsed
+fn call_of(letter: u32, offset: u32, first: u32, second: u32) -> Option<Call>
     ensures { result ≡ call_of letter offset first second }
 {
     if host_parts::is_trigger(letter, offset, first, second) {
-        return Parsed::Named(Call::Trigger);
+        return Some(Call::Trigger);
     }
     if !host_parts::fits(letter, offset) {
-        return Parsed::Skipped;
+        return None;
     }
     record::named((letter % 256) as u8, 0, offset, first, second)
 }
@@ -99,7 +98,7 @@ pub fn step(
         return host_parts::refused(number::NOT_WELL_FORMED);
     }
     match call_of(letter, offset, first, second) {
-        Parsed::Named(c) => make(s, h, image, flags, commands, payloads, store, output, c),
-        Parsed::Skipped => host_parts::refused(number::WRONG_RECORD),
+        Some(c) => make(s, h, image, flags, commands, payloads, store, output, c),
+        None => host_parts::refused(number::WRONG_RECORD),
     }
 }

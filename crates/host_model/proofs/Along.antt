@@ -16,7 +16,7 @@ use Rattle.model.specs.Rings.{Controller, rings}
 use Rattle.model.specs.Laws.{StaysWellFormed, SetUpWellFormed, fresh_controller}
 use Rattle.model.proofs.Simulation.{stays_well_formed, set_up_well_formed}
 use Rattle.answer.specs.Given.{controller}
-use Rattle.letters.specs.declared.Parsed.TheVariants.{Named}
+use Rattle.std.specs.Prelude.{Some}
 use Rattle.image_model.specs.Image.{kept_of}
 use Rattle.image_model.specs.Laws.{KeptIsRead}
 use Rattle.image_model.proofs.Laws.{Typed, typed_of, typed_is, kept_is_read}
@@ -26,7 +26,7 @@ use Rattle.host_model.proofs.Hosting.{set_up_done}
 use Rattle.host_model.proofs.Types.{step_typed}
 
 -- one call on what is kept of a bank
-pub on_kept : (b : Bank) (st o : List ℕ) (c : Call) → Typed b → well_formed b ≡ true → step_in (Named c) (kept_of b) st o ≡ hosted (step rings (controller b st o) c)
+pub on_kept : (b : Bank) (st o : List ℕ) (c : Call) → Typed b → well_formed b ≡ true → step_in (Some c) (kept_of b) st o ≡ hosted (step rings (controller b st o) c)
 unfolding step_in KeptIsRead
 on_kept b st o c t w =
     let k = kept_is_read b (typed_is b t) w in

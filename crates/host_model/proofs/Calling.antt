@@ -9,7 +9,7 @@ use lib.Dec.{leb}
 use borrow.Author.Tests.{ne_eqb, le-ltb, leb-false, leb-true}
 use Rattle.bank.proofs.Bools.{and-true}
 use Rattle.model.specs.declared.Call.TheVariants.{Trigger}
-use Rattle.letters.specs.declared.Parsed.TheVariants.{Named, Skipped}
+use Rattle.std.specs.Prelude.{Some, None}
 use Rattle.letters.specs.Forms.{Form, forms, form_with, form_of}
 use Rattle.record_model.specs.Record.{Record, rec, named_in, record_at, has_offset, fits}
 use Rattle.record_model.specs.Writer.{record_bytes}
@@ -38,12 +38,12 @@ unfit_offset : (b : Bool) (o : ℕ) → 65535 < o → fits (cond b 4 0) o ≡ fa
 unfit_offset true o h = le-ltb o 65536 (omega (arith, h))
 unfit_offset false o h = ne_eqb o 0 (λ e. omega (arith, e, h))
 
-no_offset : (f : Option Form) (l o v w : ℕ) → 65535 < o → named_in f (rec l 0 o v w) ≡ Skipped
+no_offset : (f : Option Form) (l o v w : ℕ) → 65535 < o → named_in f (rec l 0 o v w) ≡ None
 no_offset none l o v w h = refl
 no_offset (some f) l o v w h = rw (unfit_offset (has_offset f.fields) o h) refl
 
 module _ (l o v w : ℕ) where
-  pub triggered : triggers l o v w ≡ true → Named Trigger ≡ call_of l o v w
+  pub triggered : triggers l o v w ≡ true → Some Trigger ≡ call_of l o v w
   unfolding call_of
   triggered e = rw e refl
 
@@ -53,10 +53,10 @@ module _ (l o v w : ℕ) where
   recorded e = rw e refl
 
   -- numbers that fit no record
-  pub unfit : (leb l 255 && leb o 65535) ≡ false → Skipped ≡ named_in (form_of l) (rec l 0 o v w)
+  pub unfit : (leb l 255 && leb o 65535) ≡ false → None ≡ named_in (form_of l) (rec l 0 o v w)
   unfit e = go (leb l 255) refl (leb o 65535) refl e
     where
-      go : (a : Bool) → leb l 255 ≡ a → (b : Bool) → leb o 65535 ≡ b → (a && b) ≡ false → Skipped ≡ named_in (form_of l) (rec l 0 o v w)
+      go : (a : Bool) → leb l 255 ≡ a → (b : Bool) → leb o 65535 ≡ b → (a && b) ≡ false → None ≡ named_in (form_of l) (rec l 0 o v w)
       go false x b y e = sym (ap (λ (f : Option Form). named_in f (rec l 0 o v w)) (no_letter l (leb-false l 255 x)))
       go true x false y e = sym (no_offset (form_of l) l o v w (leb-false o 65535 y))
       go true x true y e = absurd (true≢false e)

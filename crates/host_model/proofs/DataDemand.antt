@@ -18,8 +18,8 @@ use Rattle.data_model.specs.Ledger.{data_event, note, ledger}
 use Rattle.data_model.specs.Account.{KeepsData, DataKept}
 use Rattle.data_model.proofs.Account.{data_kept}
 use Rattle.answer.specs.Given.{controller}
-use Rattle.letters.specs.declared.Parsed.{Parsed}
-use Rattle.letters.specs.declared.Parsed.TheVariants.{Named, Skipped}
+use Rattle.letters.specs.Named.{Parsed}
+use Rattle.std.specs.Prelude.{Some, None}
 use Rattle.image_model.specs.Image.{Kept, kept_of}
 use Rattle.image_model.proofs.Laws.{Typed}
 use Rattle.host_model.specs.Host.{Fresh, set_up_in, Hosted, step_in}
@@ -47,15 +47,15 @@ module _ {S : Type 0} (f : S → Call → Answer → S) (g : S → Controller �
 
       go : (p : Parsed) → ((s : S) (l : Controller) → Typed l.bank → well_formed l.bank ≡ true → counted f s (kept_of l.bank) l.store qs ≡ by_model s l (named qs))
           → after p (step_in p (kept_of l.bank) l.store q.output) ≡ by_model s l (with_call p q.output (named qs))
-      go (Named c) rest =
+      go (Some c) rest =
           let m = rings.lend q.output l in
           let lent : Lent = record { output = q.output; call = c } in
           let r = step_lent rings l lent in
           let e = final rings r.next (named qs) in
-          ap (after (Named c)) (on_kept l.bank l.store q.output c t w)
+          ap (after (Some c)) (on_kept l.bank l.store q.output c t w)
           ∙ rest (f s c r.answer) r.next (step_typed m c t) (stays_well_formed m c w)
           ∙ ap (λ (x : S). record { count = x; kept = kept_of e.bank; store = e.store }) (sym (goes s l lent (named qs)))
-      go Skipped rest = ap (after Skipped) (unnamed l.bank l.store q.output t w) ∙ rest s l t w
+      go None rest = ap (after None) (unnamed l.bank l.store q.output t w) ∙ rest s l t w
 
   -- what holds of the model's list from the same set-up holds of the host's
   from_set_up : (P : S → Controller → Type 0) (k : Kept) (caps marks : Sizes) (id : ℕ) (store : List ℕ) (qs : List Asked) (s : S) → (set_up_in k caps marks id).number ≡ 0

@@ -17,8 +17,8 @@ use Rattle.model.specs.Demand.{other, event, Tally, follow, tally, Demand}
 use Rattle.model.proofs.Simulation.{stays_well_formed, set_up_well_formed}
 use Rattle.model.proofs.Demand.{demand}
 use Rattle.answer.specs.Given.{controller}
-use Rattle.letters.specs.declared.Parsed.{Parsed}
-use Rattle.letters.specs.declared.Parsed.TheVariants.{Named, Skipped}
+use Rattle.letters.specs.Named.{Parsed}
+use Rattle.std.specs.Prelude.{Some, None}
 use Rattle.playback_model.specs.Demand.{KeepsDemand}
 use Rattle.image_model.specs.Image.{Kept, kept_of, bank_in, sized}
 use Rattle.image_model.specs.Laws.{KeptIsRead}
@@ -34,8 +34,8 @@ abbrev pub call_in : Asked → Parsed
 call_in q = call_of q.letter q.offset q.first q.second
 
 abbrev pub with_call : Parsed → List ℕ → List Lent → List Lent
-with_call (Named c) o cs = record { output = o; call = c } ∷ cs
-with_call Skipped o cs = cs
+with_call (Some c) o cs = record { output = o; call = c } ∷ cs
+with_call None o cs = cs
 
 abbrev pub named : List Asked → List Lent
 named [] = []
@@ -50,7 +50,7 @@ nothing_counted none = refl
 nothing_counted (some t) = refl
 
 -- numbers that name no call, on what is kept of a bank
-pub unnamed : (b : Bank) (st o : List ℕ) → Typed b → well_formed b ≡ true → step_in Skipped (kept_of b) st o ≡ refusal 27 (kept_of b) st o
+pub unnamed : (b : Bank) (st o : List ℕ) → Typed b → well_formed b ≡ true → step_in None (kept_of b) st o ≡ refusal 27 (kept_of b) st o
 unfolding step_in KeptIsRead
 unnamed b st o t w = rw (kept_is_read b (typed_is b t) w).0
 
@@ -64,13 +64,13 @@ counts (q ∷ qs) o l t w = go (call_in q) (counts qs)
 
     go : (p : Parsed) → ((o : Option Tally) (l : Controller) → Typed l.bank → well_formed l.bank ≡ true → counted o (kept_of l.bank) l.store qs ≡ by_model o l (named qs))
         → after p (step_in p (kept_of l.bank) l.store q.output) ≡ by_model o l (with_call p q.output (named qs))
-    go (Named c) rest =
+    go (Some c) rest =
         let m = rings.lend q.output l in
         let s = step_lent rings l (record { output = q.output; call = c }) in
-        ap (after (Named c)) (on_kept l.bank l.store q.output c t w)
+        ap (after (Some c)) (on_kept l.bank l.store q.output c t w)
         ∙ rest (follow o (event c s.answer)) s.next (step_typed m c t) (stays_well_formed m c w)
-    go Skipped rest =
-        ap (after Skipped) (unnamed l.bank l.store q.output t w)
+    go None rest =
+        ap (after None) (unnamed l.bank l.store q.output t w)
         ∙ ap (λ (x : Option Tally). counted x (kept_of l.bank) l.store qs) (nothing_counted o)
         ∙ rest o l t w
 

@@ -12,8 +12,8 @@ use Rattle.model.specs.declared.Call.{Call}
 use Rattle.model.specs.Engine.{Step, step}
 use Rattle.model.specs.Rings.{Controller, rings}
 use Rattle.answer.specs.Given.{controller}
-use Rattle.letters.specs.declared.Parsed.{Parsed}
-use Rattle.letters.specs.declared.Parsed.TheVariants.{Named, Skipped}
+use Rattle.letters.specs.Named.{Parsed}
+use Rattle.std.specs.Prelude.{Some, None}
 use Rattle.trace_model.specs.Format.{look_number, section_start, section}
 use Rattle.playback_model.specs.declared.Report.{Report}
 use Rattle.image_model.specs.Image.{Kept, kept_of, bank_in, encoded, sized, is_kept}
@@ -75,12 +75,12 @@ module _ (k : Kept) (st o : List ℕ) where
   no_bank p e = rw e refl
 
   -- the numbers name no call
-  pub no_call : (p : Parsed) → is_kept k ≡ true → p ≡ Skipped → refusal 27 k st o ≡ step_in p k st o
+  pub no_call : (p : Parsed) → is_kept k ≡ true → p ≡ None → refusal 27 k st o ≡ step_in p k st o
   unfolding step_in
   no_call p e f = rw e (sym (ap (λ (x : Parsed). made_in x k st o) f))
 
   -- the call that they name
-  pub one_call : (p : Parsed) (c : Call) (s : Step Controller) → is_kept k ≡ true → p ≡ Named c → s ≡ step rings (controller (bank_in k) st o) c → hosted s ≡ step_in p k st o
+  pub one_call : (p : Parsed) (c : Call) (s : Step Controller) → is_kept k ≡ true → p ≡ Some c → s ≡ step rings (controller (bank_in k) st o) c → hosted s ≡ step_in p k st o
   unfolding step_in
   one_call p c s e f g = rw e (ap hosted g ∙ sym (ap (λ (x : Parsed). made_in x k st o) f))
 

@@ -16,8 +16,8 @@ use Rattle.model.specs.Rings.{Controller, rings}
 use Rattle.model.specs.Laws.{RefusalChangesNothing, RefusalShowsNothing}
 use Rattle.model.proofs.Laws.{refusal_changes_nothing, refusal_shows_nothing}
 use Rattle.answer.specs.Given.{controller}
-use Rattle.letters.specs.declared.Parsed.{Parsed}
-use Rattle.letters.specs.declared.Parsed.TheVariants.{Named, Skipped}
+use Rattle.letters.specs.Named.{Parsed}
+use Rattle.std.specs.Prelude.{Some, None}
 use Rattle.letters.specs.Forms.{form_of}
 use Rattle.trace_model.specs.Format.{look_number, section_start, section}
 use Rattle.trace_model.proofs.Sections.{refused, found, handed, handed_length, within}
@@ -109,8 +109,8 @@ refused_stays p k st o = go (is_kept k) refl p
   where
     go : (b : Bool) → is_kept k ≡ b → (p : Parsed) → (let h = step_in p k st o in let n = h.answer.number in (n ≡ 0 → ⊥) → (n ≡ 19 → ⊥) → h ≡ record { answer = h.answer; kept = k; store = st; output = o })
     go false e p = rw e (λ z t. refl)
-    go true e Skipped = rw e (λ z t. refl)
-    go true e (Named c) = rw e (stays k st o c (taken_is_kept k e).1)
+    go true e None = rw e (λ z t. refl)
+    go true e (Some c) = rw e (stays k st o c (taken_is_kept k e).1)
 
 pub refused_silent : RefusedSilent
 unfolding RefusedSilent RefusalShowsNothing step_in
@@ -118,8 +118,8 @@ refused_silent p k st o = go (is_kept k) refl p
   where
     go : (b : Bool) → is_kept k ≡ b → (p : Parsed) → (let h = step_in p k st o in let n = h.answer.number in (n ≡ 0 → ⊥) → (n ≡ 3 → ⊥) → (n ≡ 19 → ⊥) → h.answer.value ≡ 0)
     go false e p = rw e (λ z s t. refl)
-    go true e Skipped = rw e (λ z s t. refl)
-    go true e (Named c) = rw e (refusal_shows_nothing (controller (bank_in k) st o) c)
+    go true e None = rw e (λ z s t. refl)
+    go true e (Some c) = rw e (refusal_shows_nothing (controller (bank_in k) st o) c)
 
 -- a look-up that is not refused is told by 0 or 27
 told_done : (w : Bool) (n m : ℕ) → n ≡ 0 → m ≡ cond (eqb n 0) (cond w 27 0) n → (m ≡ 0 → ⊥) → (m ≡ 27 → ⊥) → ⊥
@@ -176,8 +176,8 @@ counted zero bytes i a = omega arith
 counted (suc n) bytes i a = go (record_at bytes i) (λ b. counted n bytes (suc i) b)
   where
     go : (p : Parsed) → ((b : Replay) → (each_record did wrong n bytes (suc i) b).told.count ≤ b.told.count + n) → (onward did wrong p a (each_record did wrong n bytes (suc i))).told.count ≤ a.told.count + suc n
-    go (Named k) rest = let h = rest (did k a) in omega (arith, h)
-    go Skipped rest = omega arith
+    go (Some k) rest = let h = rest (did k a) in omega (arith, h)
+    go None rest = omega arith
 
 few : (limit : ℕ) (bytes : List ℕ) → records.whole_records limit bytes ≤ length bytes
 few limit bytes = go (ltb limit (length bytes / 12)) refl

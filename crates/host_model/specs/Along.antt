@@ -1,5 +1,5 @@
 -- What the calls of a host promise along a list: those of the model, so demand 3 holds of them.
-use Rattle.std.specs.Prelude.{ℕ, ◌≡◌, true, List, [], ◌∷◌}
+use Rattle.std.specs.Prelude.{ℕ, ◌≡◌, true, List, [], ◌∷◌, Some}
 use Rattle.bank.specs.declared.Answer.{Answer}
 use Rattle.bank.specs.declared.Sizes.{Sizes}
 use Rattle.bank.specs.SetUp.{set_up}
@@ -7,7 +7,6 @@ use Rattle.bank.specs.Formed.{well_formed}
 use Rattle.model.specs.Engine.{Lent, answers, final}
 use Rattle.model.specs.Rings.{Controller, rings}
 use Rattle.model.specs.Laws.{fresh_controller}
-use Rattle.letters.specs.declared.Parsed.TheVariants.{Named}
 use Rattle.image_model.specs.Image.{Kept, kept_of, sized}
 use Rattle.image_model.specs.Laws.{in_types}
 use Rattle.host_model.specs.Host.{set_up_in, step_in}
@@ -25,7 +24,7 @@ ran ls k st = record { answers = ls; kept = k; store = st }
 unfoldable pub host_ran : Kept → List ℕ → List Lent → Ran
 host_ran k st [] = ran [] k st
 host_ran k st (c ∷ cs) =
-    let h = step_in (Named c.call) k st c.output in
+    let h = step_in (Some c.call) k st c.output in
     let r = host_ran h.kept h.store cs in
     ran (h.answer ∷ r.answers) r.kept r.store
 

@@ -1,6 +1,6 @@
 -- `data.hosts`: where every data word went, for every list of calls that a host makes through the archive. Beside it stands demand 3
 -- (Demand.antt).
-use Rattle.std.specs.Prelude.{ℕ, ◌≡◌, List, [], ◌∷◌}
+use Rattle.std.specs.Prelude.{ℕ, ◌≡◌, List, [], ◌∷◌, Some, None}
 use Rattle.std.proofs.Math.Option.{Option, none, some}
 use Rattle.bank.specs.declared.Answer.{Answer}
 use Rattle.bank.specs.declared.Sizes.{Sizes}
@@ -9,8 +9,7 @@ use Rattle.model.specs.Rings.{Controller}
 use Rattle.data_model.specs.Ledger.{data_event, Ledger, note}
 use Rattle.data_model.specs.Account.{KeepsData}
 use Rattle.answer.specs.Given.{controller}
-use Rattle.letters.specs.declared.Parsed.{Parsed}
-use Rattle.letters.specs.declared.Parsed.TheVariants.{Named, Skipped}
+use Rattle.letters.specs.Named.{Parsed}
 use Rattle.image_model.specs.Image.{Kept, bank_in}
 use Rattle.host_model.specs.Host.{set_up_in, call_of, step_in}
 use Rattle.host_model.specs.Demand.{Asked}
@@ -24,8 +23,8 @@ pub record Counted (S : Type 0) : Type 0 where
 -- counting by f; numbers that name no call count for nothing
 module _ {S : Type 0} (f : S → Call → Answer → S) where
   abbrev pub counted_as : S → Parsed → Answer → S
-  counted_as s (Named c) a = f s c a
-  counted_as s Skipped a = s
+  counted_as s (Some c) a = f s c a
+  counted_as s None a = s
 
   -- each call gets image, tables and store as the last one left them
   unfoldable pub counted : S → Kept → List ℕ → List Asked → Counted S

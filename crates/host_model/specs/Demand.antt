@@ -1,12 +1,11 @@
 -- Demand 3, of paper 00, for every list of calls that a host makes through the archive.
-use Rattle.std.specs.Prelude.{ℕ, ◌≡◌, List, [], ◌∷◌}
+use Rattle.std.specs.Prelude.{ℕ, ◌≡◌, List, [], ◌∷◌, Some, None}
 use Rattle.std.proofs.Math.Option.{Option, none, some}
 use Rattle.bank.specs.declared.Answer.{Answer}
 use Rattle.bank.specs.declared.Sizes.{Sizes}
 use Rattle.model.specs.Demand.{Event, other, event, Tally, follow}
 use Rattle.answer.specs.Given.{controller}
-use Rattle.letters.specs.declared.Parsed.{Parsed}
-use Rattle.letters.specs.declared.Parsed.TheVariants.{Named, Skipped}
+use Rattle.letters.specs.Named.{Parsed}
 use Rattle.playback_model.specs.Demand.{KeepsDemand}
 use Rattle.image_model.specs.Image.{Kept, bank_in}
 use Rattle.host_model.specs.Host.{set_up_in, call_of, step_in}
@@ -21,8 +20,8 @@ pub record Asked : Type 0 where
 
 -- numbers that name no call count for nothing
 abbrev pub event_of : Parsed → Answer → Event
-event_of (Named c) a = event c a
-event_of Skipped a = other
+event_of (Some c) a = event c a
+event_of None a = other
 
 -- the tally of some calls by their answers, and what they left
 pub record Counted : Type 0 where

@@ -1,5 +1,5 @@
 -- The calls of a host: on what it keeps of a bank, an image and the tables, and a store, an output and a trace that are lent.
-use Rattle.std.specs.Prelude.{ℕ, ◌+◌, ◌*◌, ◌%◌, ◌^◌, Bool, cond, ◌&&◌, ◌||◌, List, [], eqb, length, set}
+use Rattle.std.specs.Prelude.{ℕ, ◌+◌, ◌*◌, ◌%◌, ◌^◌, Bool, cond, ◌&&◌, ◌||◌, List, [], eqb, length, set, Some, None}
 use Rattle.number.specs.Names as number
 use Rattle.bank.specs.declared.Answer.{Answer}
 use Rattle.bank.specs.declared.Bank.{Bank}
@@ -9,8 +9,7 @@ use Rattle.model.specs.declared.Call.TheVariants.{Trigger}
 use Rattle.model.specs.Engine.{Step, step}
 use Rattle.model.specs.Rings.{Controller, rings}
 use Rattle.answer.specs.Given.{controller}
-use Rattle.letters.specs.declared.Parsed.{Parsed}
-use Rattle.letters.specs.declared.Parsed.TheVariants.{Named, Skipped}
+use Rattle.letters.specs.Named.{Parsed}
 use Rattle.letters.specs.Forms.{form_of}
 use Rattle.trace_model.specs.Format.{look_number, section_start, section}
 use Rattle.record_model.specs.Record.{rec, named_in}
@@ -40,7 +39,7 @@ abbrev pub triggers : ℕ → ℕ → ℕ → ℕ → Bool
 triggers letter offset v w = eqb letter 0x47 && (eqb offset 0 && (eqb v 0 && eqb w 0))
 
 unfoldable pub call_of : ℕ → ℕ → ℕ → ℕ → Parsed
-call_of letter offset v w = cond (triggers letter offset v w) (Named Trigger) (named_in (form_of letter) (rec letter 0 offset v w))
+call_of letter offset v w = cond (triggers letter offset v w) (Some Trigger) (named_in (form_of letter) (rec letter 0 offset v w))
 
 -- an answer, and what the call left
 pub record Hosted : Type 0 where
@@ -57,8 +56,8 @@ refusal n k st o = record { answer = record { value = 0; number = n }; kept = k;
 
 -- on the bank that is said. 27 for numbers that name no call, as a replay has it for such a record
 abbrev pub made_in : Parsed → Kept → List ℕ → List ℕ → Hosted
-made_in (Named c) k st o = hosted (step rings (controller (bank_in k) st o) c)
-made_in Skipped k st o = refusal number.wrong_record k st o
+made_in (Some c) k st o = hosted (step rings (controller (bank_in k) st o) c)
+made_in None k st o = refusal number.wrong_record k st o
 
 unfoldable pub step_in : Parsed → Kept → List ℕ → List ℕ → Hosted
 step_in p k st o = cond (is_kept k) (made_in p k st o) (refusal number.not_well_formed k st o)

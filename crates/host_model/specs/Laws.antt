@@ -1,13 +1,12 @@
 -- What the calls of a host promise beside their definitions: every call has its numbers, what is kept of no well-formed bank is refused, a
 -- refusal changes nothing, what is done is told and not cut.
-use Rattle.std.specs.Prelude.{ℕ, ◌*◌, ◌<◌, ◌^◌, ◌≡◌, true, false, List, [], ◌∷◌, length}
+use Rattle.std.specs.Prelude.{ℕ, ◌*◌, ◌<◌, ◌^◌, ◌≡◌, true, false, List, [], ◌∷◌, length, Some}
 use Rattle.number.specs.Names as number
 use Rattle.model.specs.declared.Call.{Call}
 use Rattle.model.specs.declared.Call.TheVariants.{Trigger}
 use Rattle.model.specs.Rings.{Controller}
 use Rattle.answer.specs.Given.{controller}
-use Rattle.letters.specs.declared.Parsed.{Parsed}
-use Rattle.letters.specs.declared.Parsed.TheVariants.{Named}
+use Rattle.letters.specs.Named.{Parsed}
 use Rattle.trace_model.specs.Format.{start_at, count_at, look_number, section}
 use Rattle.record_model.specs.Writer.{record_of, writable}
 use Rattle.playback_model.specs.Replay.{replay_of}
@@ -18,7 +17,7 @@ use Rattle.host_model.specs.Host.{call_of, refusal, step_in, bank_for, told_in, 
 -- every call whose arguments a record can hold is named by the numbers of its record, and the trigger by G
 unfoldable pub CalledIsNamed : Type 0
 CalledIsNamed =
-    ((c : Call) → writable c ≡ true → (let r = record_of c in call_of r.letter r.offset r.first r.second ≡ Named c)) × (call_of 0x47 0 0 0 ≡ Named Trigger)
+    ((c : Call) → writable c ≡ true → (let r = record_of c in call_of r.letter r.offset r.first r.second ≡ Some c)) × (call_of 0x47 0 0 0 ≡ Some Trigger)
 
 -- what is kept of no well-formed bank, or has another length: a call is answered 21, and so is each record of a replay, up to the limit or the
 -- first wrong one; nothing but what is told changes

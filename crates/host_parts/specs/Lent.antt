@@ -2,7 +2,7 @@
 use Rattle.std.specs.Prelude.{ℕ, List}
 use Rattle.bank.specs.declared.Sizes.{Sizes}
 use Rattle.answer.specs.Memory.{Param}
-use Rattle.letters.specs.declared.Parsed.{Parsed}
+use Rattle.letters.specs.Named.{Parsed}
 use Rattle.image_model.specs.Image.{Kept, kept}
 use Rattle.host_model.specs.Host.{Fresh, Hosted, step_in, packed_of, Replayed, replay_in}
 

@@ -1,7 +1,6 @@
 -- The nine letters of lines and of records (`session.lines`, `trace.record`): the fields that a letter has, and its call.
-use Rattle.std.specs.Prelude.{ℕ, Bool, true, false, cond, List, [], ◌∷◌, eqb}
+use Rattle.std.specs.Prelude.{ℕ, Bool, true, false, cond, List, [], ◌∷◌, eqb, Option, None, Some}
 use Prim.Native.Char.{code}
-use Rattle.std.proofs.Math.Option.{Option, none, some}
 use Rattle.model.specs.declared.Call.{Call}
 use Rattle.model.specs.declared.Call.TheVariants.{Read, Write, Start, Send, Receive, Finish, Interrupt, Request, Take}
 
@@ -52,8 +51,8 @@ forms =
     ∷ []
 
 unfoldable pub form_with : ℕ → List Form → Option Form
-form_with l [] = none
-form_with l (f ∷ fs) = let r = form_with l fs in cond (eqb l f.letter) (some f) r
+form_with l [] = None
+form_with l (f ∷ fs) = let r = form_with l fs in cond (eqb l f.letter) (Some f) r
 
 abbrev pub form_of : ℕ → Option Form
 form_of l = form_with l forms

@@ -1,10 +1,11 @@
 -- What `letters::call` gives to a reader of lines, which holds two values: that of the last field, and that of the field before it.
-use Rattle.std.specs.Prelude.{ℕ, ◌%◌, ◌^◌, cond, eqb}
-use Rattle.std.proofs.Math.Option.{Option, none, some}
+use Rattle.std.specs.Prelude.{ℕ, ◌%◌, ◌^◌, cond, eqb, Option, None, Some}
 use Rattle.model.specs.declared.Call.{Call}
-use Rattle.letters.specs.declared.Parsed.{Parsed}
-use Rattle.letters.specs.declared.Parsed.TheVariants.{Named, Skipped}
 use Rattle.letters.specs.Forms.{Form, offset_digits, unused}
+
+-- what a line or a record names: a call, or None
+abbrev pub Parsed : Type 0
+Parsed = Option Call
 
 -- the low digits of a number, as many as a field may have; a field's value is not changed by it
 abbrev pub low_digits : ℕ → ℕ → ℕ
@@ -21,5 +22,5 @@ placed f v w =
     (cond (eqb second unused) (f.call 0 (low_digits first w) 0) (f.call 0 (low_digits first v) (low_digits second w)))
 
 abbrev pub named_by : Option Form → ℕ → ℕ → Parsed
-named_by none v w = Skipped
-named_by (some f) v w = Named (placed f v w)
+named_by None v w = None
+named_by (Some f) v w = Some (placed f v w)

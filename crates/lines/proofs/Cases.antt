@@ -2,7 +2,7 @@
 use mathlib.Core.Path.{◌≡◌, refl}
 use mathlib.Core.List.{[], ◌∷◌, map}
 use Rattle.model.specs.declared.Call.TheVariants.{Read, Write, Start, Send, Receive, Finish, Interrupt, Request, Take}
-use Rattle.letters.specs.declared.Parsed.TheVariants.{Named, Skipped}
+use Rattle.std.specs.Prelude.{Some, None}
 use Rattle.letters.specs.Forms.{forms, form_with}
 use Rattle.lines.specs.Lines.{before, behind, all_hex, line_names}
 
@@ -22,8 +22,8 @@ pub taken : map line_names (
     ∷ (0x41 ∷ [])
     ∷ (0x57 ∷ 0x20 ∷ 0x34 ∷ 0x20 ∷ 0x30 ∷ [])
     ∷ [])
-    ≡ Named (Write 0x40 0) ∷ Named (Write 0x180 0x1102) ∷ Named (Write 0xdc 0xa5c30000) ∷ Named (Write 0xd4 0x210)
-    ∷ Named Start ∷ Named Send ∷ Named (Finish 0) ∷ Named (Read 0xd8) ∷ Named (Receive 0xff) ∷ Named (Interrupt 8 0x5a) ∷ Named (Request 0xffffffff 1) ∷ Named Take ∷ Named (Write 4 0) ∷ []
+    ≡ Some (Write 0x40 0) ∷ Some (Write 0x180 0x1102) ∷ Some (Write 0xdc 0xa5c30000) ∷ Some (Write 0xd4 0x210)
+    ∷ Some Start ∷ Some Send ∷ Some (Finish 0) ∷ Some (Read 0xd8) ∷ Some (Receive 0xff) ∷ Some (Interrupt 8 0x5a) ∷ Some (Request 0xffffffff 1) ∷ Some Take ∷ Some (Write 4 0) ∷ []
 unfolding forms form_with before behind all_hex
 taken = refl
 
@@ -57,6 +57,6 @@ pub skipped : map line_names (
     ∷ (0x52 ∷ 0x34 ∷ [])
     ∷ (0x5a ∷ [])
     ∷ [])
-    ≡ Skipped ∷ Skipped ∷ Skipped ∷ Skipped ∷ Skipped ∷ Skipped ∷ Skipped ∷ Skipped ∷ Skipped ∷ Skipped ∷ Skipped ∷ Skipped ∷ Skipped ∷ Skipped ∷ Skipped ∷ Skipped ∷ Skipped ∷ Skipped ∷ Skipped ∷ Skipped ∷ Skipped ∷ Skipped ∷ Skipped ∷ Skipped ∷ Skipped ∷ []
+    ≡ None ∷ None ∷ None ∷ None ∷ None ∷ None ∷ None ∷ None ∷ None ∷ None ∷ None ∷ None ∷ None ∷ None ∷ None ∷ None ∷ None ∷ None ∷ None ∷ None ∷ None ∷ None ∷ None ∷ None ∷ None ∷ []
 unfolding forms form_with before behind all_hex
 skipped = refl

@@ -5,15 +5,14 @@ use native.Mathlib.Nat.{mod-eq_of_lt, pow-suc, pow-le-pow_right}
 use mathlib.Core.Path.{◌≡◌, refl, sym, ap, subst, ◌∙◌}
 use mathlib.Core.Bool.{Bool, true, false, cond, not, ◌&&◌}
 use mathlib.Core.List.{List, [], ◌∷◌, foldl}
-use mathlib.Core.Option.{Option, none, some}
+use Rattle.std.specs.Prelude.{Option, None, Some}
 use lib.Dec.{eqb, ltb, leb}
 use lib.ListN.{length, get_or, drop}
 use borrow.Author.Tests.{lt-ltb, le-ltb, le-leb, lt-leb, ltb-true, ltb-false, leb-true, leb-false, eqb-true, eqb-false, ne_eqb}
 use Rattle.model.specs.declared.Call.{Call}
 use Rattle.model.specs.declared.Call.TheVariants.{Read, Write, Start, Send, Receive, Finish, Interrupt, Request, Take}
 use Rattle.lines.specs.declared.Reading.{Reading}
-use Rattle.letters.specs.declared.Parsed.{Parsed}
-use Rattle.letters.specs.declared.Parsed.TheVariants.{Named, Skipped}
+use Rattle.letters.specs.Named.{Parsed}
 use Rattle.letters.specs.Forms.{Form, forms, form_with, form_of}
 use Rattle.letters.specs.Named.{low_digits, named_by}
 use Rattle.lines.specs.Lines.{hex_of, all_hex, is_field, value_of, before, behind, field, none_left, by_fields, by_letter, line_names}
@@ -94,18 +93,18 @@ stays (b ∷ bytes) = ap (λ (x : Reading). foldl eat_of x bytes) (either (eqb b
     either false true r = refl
     either false false r = refl
 
-lost : (r : Reading) (bytes : List ℕ) → r ≡ skipped → call_read (foldl eat_of r bytes) ≡ Skipped
+lost : (r : Reading) (bytes : List ℕ) → r ≡ skipped → call_read (foldl eat_of r bytes) ≡ None
 unfolding forms form_with
 lost r bytes e = ap (λ (x : Reading). call_read (foldl eat_of x bytes)) e ∙ ap call_read (stays bytes)
 
 -- what is named once a field ends: `first` and `v` are the last two values, n and m the digits of the fields to come, K the call by the last two values
 unfoldable rest : (ℕ → ℕ → Parsed) → ℕ → ℕ → ℕ → ℕ → List (List ℕ) → Parsed
-rest K n m first v [] = cond (eqb n 0) (K first v) Skipped
-rest K n m first v (part ∷ parts) = cond (eqb n 0) Skipped (cond (is_field n part) (rest K m 0 v (value_of part) parts) Skipped)
+rest K n m first v [] = cond (eqb n 0) (K first v) None
+rest K n m first v (part ∷ parts) = cond (eqb n 0) None (cond (is_field n part) (rest K m 0 v (value_of part) parts) None)
 
 -- and with a field at hand
 abbrev hand : (ℕ → ℕ → Parsed) → ℕ → ℕ → ℕ → Bool → ℕ → ℕ → List ℕ → List (List ℕ) → Parsed
-hand K room n m bare first v part parts = cond (goes_on room bare part) (rest K n m first (value_from v part) parts) Skipped
+hand K room n m bare first v part parts = cond (goes_on room bare part) (rest K n m first (value_from v part) parts) None
 
 turned : (b : Bool) (x y : Parsed) → cond b y x ≡ cond (not b) x y
 turned true x y = refl
@@ -114,7 +113,7 @@ turned false x y = refl
 reads : (l room n m : ℕ) (bare : Bool) (first v k : ℕ) (bytes : List ℕ) → eqb l 0 ≡ false → n ≤ 8 → m ≤ 8 → v < 16 ^ k → k + room ≤ 8
     → call_read (foldl eat_of (reading_with l room n m bare first v) bytes) ≡ hand (named_by (form_of l)) room n m bare first v (before 0x20 bytes) (behind 0x20 bytes)
 unfolding before behind rest
-reads l room n m bare first v k [] q hn hm s t = turned bare (cond (eqb n 0) (named_by (form_of l) first v) Skipped) Skipped
+reads l room n m bare first v k [] q hn hm s t = turned bare (cond (eqb n 0) (named_by (form_of l) first v) None) None
 reads l room n m bare first v k (b ∷ bytes) q hn hm s t =
     let K = named_by (form_of l) in
     let r = reading_with l room n m bare first v in
@@ -127,7 +126,7 @@ reads l room n m bare first v k (b ∷ bytes) q hn hm s t =
     let step : eat_of r b ≡ reading_with l n m 0 true v 0 = rw (q, e, f, z) in
     ap (λ (x : Reading). call_read (foldl eat_of x bytes)) step
     ∙ reads l n m 0 true v 0 0 bytes q hm (omega arith) (omega arith) (omega arith)
-    ∙ ap (λ (x : Bool). cond x (rest K m 0 v (value_of part) parts) Skipped) (begins n part)
+    ∙ ap (λ (x : Bool). cond x (rest K m 0 v (value_of part) parts) None) (begins n part)
     ∙ rw (e, f, z))))
     (λ e. split (ltb 15 (hex_of b))
     (λ f. let g : 15 < hex_of b = ltb-true 15 (hex_of b) f in lost (eat_of r b) bytes (rw (q, e, f)) ∙ rw (e, le-ltb (hex_of b) 16 (omega arith)))
@@ -148,12 +147,12 @@ reads l room n m bare first v k (b ∷ bytes) q hn hm s t =
 -- ── A row ─────────────────────────────────────────────────────────────────────────────────────────────────────
 -- behind the last field, where the last is to come, and where two are; no remainder cuts a field's value
 module _ (K : ℕ → ℕ → Parsed) where
-  ends : (c : Call) (first v : ℕ) → K first v ≡ Named c → (parts : List (List ℕ)) → rest K 0 0 first v parts ≡ none_left c parts
+  ends : (c : Call) (first v : ℕ) → K first v ≡ Some c → (parts : List (List ℕ)) → rest K 0 0 first v parts ≡ none_left c parts
   unfolding rest
   ends c first v e [] = e
   ends c first v e (part ∷ parts) = refl
 
-  one_more : (g : ℕ → Call) (d first v : ℕ) → ((w : ℕ) → K v w ≡ Named (g (low_digits (suc d) w))) → (parts : List (List ℕ))
+  one_more : (g : ℕ → Call) (d first v : ℕ) → ((w : ℕ) → K v w ≡ Some (g (low_digits (suc d) w))) → (parts : List (List ℕ))
       → rest K (suc d) 0 first v parts ≡ field (suc d) parts (λ w parts₁. none_left (g w) parts₁)
   unfolding rest
   one_more g d first v h [] = rw (ne_eqb (suc d) 0 (λ e. omega (arith, e)))
@@ -161,10 +160,10 @@ module _ (K : ℕ → ℕ → Parsed) where
       let w = value_of part in
       passed (eqb (suc d) 0) _ _ (ne_eqb (suc d) 0 (λ e. omega (arith, e)))
       ∙ split (is_field (suc d) part)
-      (λ e. chosen _ _ _ e ∙ ends (g w) v w (h w ∙ ap (λ (n : ℕ). Named (g n)) (mod-eq_of_lt (below (suc d) part e))) parts ∙ sym (chosen _ _ _ e))
+      (λ e. chosen _ _ _ e ∙ ends (g w) v w (h w ∙ ap (λ (n : ℕ). Some (g n)) (mod-eq_of_lt (below (suc d) part e))) parts ∙ sym (chosen _ _ _ e))
       (λ e. passed _ _ _ e ∙ sym (passed _ _ _ e))
 
-  two_more : (g : ℕ → ℕ → Call) (d d' first v : ℕ) → ((w x : ℕ) → K w x ≡ Named (g (low_digits (suc d) w) (low_digits (suc d') x))) → (parts : List (List ℕ))
+  two_more : (g : ℕ → ℕ → Call) (d d' first v : ℕ) → ((w x : ℕ) → K w x ≡ Some (g (low_digits (suc d) w) (low_digits (suc d') x))) → (parts : List (List ℕ))
       → rest K (suc d) (suc d') first v parts ≡ field (suc d) parts (λ w parts₁. field (suc d') parts₁ (λ x parts₂. none_left (g w x) parts₂))
   unfolding rest
   two_more g d d' first v h [] = rw (ne_eqb (suc d) 0 (λ e. omega (arith, e)))
@@ -172,7 +171,7 @@ module _ (K : ℕ → ℕ → Parsed) where
       let w = value_of part in
       passed (eqb (suc d) 0) _ _ (ne_eqb (suc d) 0 (λ e. omega (arith, e)))
       ∙ split (is_field (suc d) part)
-      (λ e. chosen _ _ _ e ∙ one_more (g w) d' v w (λ x. h w x ∙ ap (λ (n : ℕ). Named (g n (low_digits (suc d') x))) (mod-eq_of_lt (below (suc d) part e))) parts ∙ sym (chosen _ _ _ e))
+      (λ e. chosen _ _ _ e ∙ one_more (g w) d' v w (λ x. h w x ∙ ap (λ (n : ℕ). Some (g n (low_digits (suc d') x))) (mod-eq_of_lt (below (suc d) part e))) parts ∙ sym (chosen _ _ _ e))
       (λ e. passed _ _ _ e ∙ sym (passed _ _ _ e))
 
 abbrev next : Form → ℕ
@@ -187,7 +186,7 @@ Bounded f = (0x20 < f.letter) × (next f ≤ 8) × (last f ≤ 8)
 
 -- behind its letter a row is read as its line says
 abbrev IsRead : Form → Type 0
-IsRead f = (parts : List (List ℕ)) → rest (named_by (some f)) (next f) (last f) 0 0 parts ≡ by_fields (some f) parts
+IsRead f = (parts : List (List ℕ)) → rest (named_by (Some f)) (next f) (last f) 0 0 parts ≡ by_fields (Some f) parts
 
 abbrev All : (Form → Type 0) → List Form → Type 0
 All P [] = Unit
@@ -207,13 +206,13 @@ all_read = (two_more _ Write 3 7 0 0 (λ o v. refl), (one_more _ Read 3 0 0 (λ 
 
 -- ── A line ────────────────────────────────────────────────────────────────────────────────────────────────────
 -- a letter, and what stands up to the first blank behind it
-alone : (l : ℕ) (f : Form) → form_of l ≡ some f → IsRead f → (part : List ℕ) (parts : List (List ℕ))
-    → hand (named_by (some f)) 0 (next f) (last f) false 0 0 part parts ≡ by_letter (l ∷ part) parts
+alone : (l : ℕ) (f : Form) → form_of l ≡ Some f → IsRead f → (part : List ℕ) (parts : List (List ℕ))
+    → hand (named_by (Some f)) 0 (next f) (last f) false 0 0 part parts ≡ by_letter (l ∷ part) parts
 alone l f e r [] parts = r parts ∙ ap (λ (o : Option Form). by_fields o parts) (sym e)
 alone l f e r (b ∷ bytes) parts = split (ltb (hex_of b) 16) (λ t. rw t) (λ t. rw t)
 
 module _ (l : ℕ) (bytes : List ℕ) where
-  by_row : (f : Form) → l ≡ f.letter → form_of l ≡ some f → Bounded f → IsRead f → call_read (foldl eat_of (letter_read (some f)) bytes) ≡ line_names (l ∷ bytes)
+  by_row : (f : Form) → l ≡ f.letter → form_of l ≡ Some f → Bounded f → IsRead f → call_read (foldl eat_of (letter_read (Some f)) bytes) ≡ line_names (l ∷ bytes)
   unfolding before behind
   by_row f g e h r =
       reads f.letter 0 (next f) (last f) false 0 0 0 bytes (ne_eqb f.letter 0 (λ z. omega (arith, z, h.0))) h.1 h.2 (omega arith) (omega arith)
@@ -222,14 +221,14 @@ module _ (l : ℕ) (bytes : List ℕ) where
       ∙ rw (ne_eqb l 0x20 (λ z. omega (arith, z, g, h.0)))
 
   -- a byte that is no letter
-  no_row : form_of l ≡ none → call_read (foldl eat_of (letter_read none) bytes) ≡ line_names (l ∷ bytes)
+  no_row : form_of l ≡ None → call_read (foldl eat_of (letter_read None) bytes) ≡ line_names (l ∷ bytes)
   unfolding before behind
   no_row e =
       lost skipped bytes refl
       ∙ split (eqb l 0x20) (λ t. rw t)
       (λ t. sym (other (before 0x20 bytes) (behind 0x20 bytes)) ∙ rw t)
     where
-      other : (part : List ℕ) (parts : List (List ℕ)) → by_letter (l ∷ part) parts ≡ Skipped
+      other : (part : List ℕ) (parts : List (List ℕ)) → by_letter (l ∷ part) parts ≡ None
       other [] parts = ap (λ (o : Option Form). by_fields o parts) e
       other (b ∷ part) parts = refl
 
@@ -239,10 +238,10 @@ module _ (l : ℕ) (bytes : List ℕ) where
   by_rows (f ∷ fs) a r e =
       split (eqb l f.letter)
       (λ t.
-      let is : form_with l (f ∷ fs) ≡ some f = chosen (eqb l f.letter) (some f) (form_with l fs) t in
+      let is : form_with l (f ∷ fs) ≡ Some f = chosen (eqb l f.letter) (Some f) (form_with l fs) t in
       ap (λ (o : Option Form). call_read (foldl eat_of (letter_read o) bytes)) is ∙ by_row f (eqb-true l f.letter t) (e ∙ is) a.0 r.0)
       (λ t.
-      let is : form_with l (f ∷ fs) ≡ form_with l fs = passed (eqb l f.letter) (some f) (form_with l fs) t in
+      let is : form_with l (f ∷ fs) ≡ form_with l fs = passed (eqb l f.letter) (Some f) (form_with l fs) t in
       ap (λ (o : Option Form). call_read (foldl eat_of (letter_read o) bytes)) is ∙ by_rows fs a.1 r.1 (e ∙ is))
 
 pub reads_the_grammar : (line : List ℕ) → call_read (reading_of line) ≡ line_names line

@@ -1,10 +1,8 @@
 -- How the code reads a line: byte by byte, so that no line need be held and one of any length is read alike. proofs/Grammar.antt: this names what `line_names` says, for every line.
-use Rattle.std.specs.Prelude.{ℕ, zero, suc, ◌+◌, ◌-◌, ◌*◌, ◌%◌, Bool, true, false, cond, eqb, ltb, get_or}
+use Rattle.std.specs.Prelude.{ℕ, zero, suc, ◌+◌, ◌-◌, ◌*◌, ◌%◌, Bool, true, false, cond, eqb, ltb, get_or, Option, None, Some}
 use mathlib.Core.List.{List, [], ◌∷◌, foldl}
-use Rattle.std.proofs.Math.Option.{Option, none, some}
 use Rattle.lines.specs.declared.Reading.{Reading}
-use Rattle.letters.specs.declared.Parsed.{Parsed}
-use Rattle.letters.specs.declared.Parsed.TheVariants.{Skipped}
+use Rattle.letters.specs.Named.{Parsed}
 use Rattle.letters.specs.Forms.{Fields, offset_digits, Form, form_of}
 use Rattle.letters.specs.Named.{named_by}
 use Rattle.lines.specs.Lines.{hex_of}
@@ -32,8 +30,8 @@ digits_of fs = present (offset_digits fs ∷ fs.first ∷ fs.second ∷ [])
 
 -- the first byte is the letter
 abbrev pub letter_read : Option Form → Reading
-letter_read none = skipped
-letter_read (some f) = let ds = digits_of f.fields in reading_with f.letter 0 (get_or ds 0 0) (get_or ds 1 0) false 0 0
+letter_read None = skipped
+letter_read (Some f) = let ds = digits_of f.fields in reading_with f.letter 0 (get_or ds 0 0) (get_or ds 1 0) false 0 0
 
 -- a blank: the field at hand has a digit at least, and there is one more
 abbrev pub spaced : Reading → Reading
@@ -54,4 +52,4 @@ reading_of = foldl eat_of unread
 
 -- a line that ends here names a call if every field is there, with a digit at least
 abbrev pub call_read : Reading → Parsed
-call_read r = cond r.bare Skipped (cond (eqb r.next 0) (named_by (form_of r.letter) r.first r.value) Skipped)
+call_read r = cond r.bare None (cond (eqb r.next 0) (named_by (form_of r.letter) r.first r.value) None)

@@ -6,7 +6,7 @@ ghost use Rattle.letters.specs.Forms.{form_of};
 ghost use Rattle.lines.specs.Lines.{hex_of, line_names};
 ghost use Rattle.lines.specs.Automaton.{unread, skipped, letter_read, spaced, extended, eat_of, reading_with, call_read};
 
-use letters::Parsed;
+use model::Call;
 
 // A line so far.
 #[derive(Clone, Copy)]
@@ -149,20 +149,20 @@ pub fn eat(r: Reading, b: u8) -> Reading
 }
 
 // What a line that ends here names.
-pub fn named(r: Reading) -> Parsed
+pub fn named(r: Reading) -> Option<Call>
     ensures { result ≡ call_read r }
 {
     if r.bare {
-        return Parsed::Skipped;
+        return None;
     }
     if r.next != 0 {
-        return Parsed::Skipped;
+        return None;
     }
     letters::call(r.letter, r.first, r.value)
 }
 
 // What a whole line names, as the grammar says it.
-pub fn parse(line: &[u8]) -> Parsed
+pub fn parse(line: &[u8]) -> Option<Call>
     ensures { result ≡ line_names line.now }
 {
     let mut r = begin();

@@ -7,7 +7,6 @@ ghost use Rattle.std.specs.Prelude.{◌≡◌, ◌*◌, ◌≤◌, length};
 ghost use Rattle.plain_console.specs.Console.{fresh_console};
 
 use bank::Answer;
-use letters::Parsed;
 use lines::Reading;
 use model::Call;
 use plain_model::{PlainBank, PlainOut};
@@ -85,8 +84,8 @@ fn call(board: Board, store: &mut [u32], c: Call) -> Ended {
 // A line of a session.
 fn session_line(board: Board, store: &mut [u32], r: Reading) -> Ended {
     match lines::named(r) {
-        Parsed::Named(c) => call(board, store, c),
-        Parsed::Skipped => silent(board.bank, board.output),
+        Some(c) => call(board, store, c),
+        None => silent(board.bank, board.output),
     }
 }
 

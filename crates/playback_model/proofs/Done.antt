@@ -8,7 +8,7 @@ use lib.Dec.{eqb}
 use borrow.Author.Tests.{eq-eqb, ne_eqb, le-ltb}
 use Rattle.model.specs.Engine.{answers, final}
 use Rattle.model.specs.Rings.{Controller}
-use Rattle.letters.specs.declared.Parsed.{Parsed}
+use Rattle.letters.specs.Named.{Parsed}
 use Rattle.trace_model.specs.Format.{look_number, section}
 use Rattle.trace_model.proofs.Sections.{refused}
 use Rattle.record_model.specs.Record.{whole_records}

@@ -5,7 +5,7 @@ use Rattle.number.specs.Names as number
 use Rattle.bank.specs.Formed.{well_formed}
 use Rattle.model.specs.declared.Call.{Call}
 use Rattle.model.specs.Rings.{Controller}
-use Rattle.letters.specs.declared.Parsed.{Parsed}
+use Rattle.letters.specs.Named.{Parsed}
 use Rattle.trace_model.specs.Format.{look_number, section}
 use Rattle.record_model.specs.Record.{whole_records}
 use Rattle.record_model.specs.Writer.{named_from}

@@ -1,5 +1,5 @@
 -- Laws of a replay, as statements: it makes the calls of its records one by one. proofs/ has a proof of each.
-use Rattle.std.specs.Prelude.{ℕ, ◌<◌, ◌≤◌, ◌≡◌, Bool, true, false, leb, length, take}
+use Rattle.std.specs.Prelude.{ℕ, ◌<◌, ◌≤◌, ◌≡◌, Bool, true, false, leb, length, take, Some, None}
 use mathlib.Core.List.{List, [], ◌∷◌, map, foldl}
 use Rattle.number.specs.Names as number
 use Rattle.bank.specs.declared.Answer.{Answer}
@@ -12,7 +12,6 @@ use Rattle.model.specs.declared.Call.TheVariants.{Read, Write, Start, Send, Rece
 use Rattle.model.specs.Engine.{step, Lent, lending, final, answers}
 use Rattle.model.specs.Rings.{Controller, rings}
 use Rattle.answer.specs.Given.{controller}
-use Rattle.letters.specs.declared.Parsed.TheVariants.{Named, Skipped}
 use Rattle.trace_model.specs.Format.{look_number}
 use Rattle.record_model.specs.Record.{record_at, whole_records}
 use Rattle.record_model.specs.Writer.{trace_of, named_from, section_of, every_writable}
@@ -38,12 +37,12 @@ made number ks l =
 
 -- `replay.calls`: where the first records name the calls ks, and the limit asks for no more, a replay makes these
 unfoldable pub OneByOne : Type 0
-OneByOne = (ks : List Call) (bytes : List ℕ) (limit : ℕ) (l : Controller) → named_from (length ks) bytes 0 ≡ map Named ks → whole_records limit bytes ≤ length ks
+OneByOne = (ks : List Call) (bytes : List ℕ) (limit : ℕ) (l : Controller) → named_from (length ks) bytes 0 ≡ map Some ks → whole_records limit bytes ≤ length ks
     → played limit bytes l ≡ made 0 (take (whole_records limit bytes) ks) l
 
 -- `replay.calls`: where the record behind these is wrong, and the limit asks for it, the number is 27
 unfoldable pub StopsAtWrong : Type 0
-StopsAtWrong = (ks : List Call) (bytes : List ℕ) (limit : ℕ) (l : Controller) → named_from (length ks) bytes 0 ≡ map Named ks → record_at bytes (length ks) ≡ Skipped → length ks < whole_records limit bytes
+StopsAtWrong = (ks : List Call) (bytes : List ℕ) (limit : ℕ) (l : Controller) → named_from (length ks) bytes 0 ≡ map Some ks → record_at bytes (length ks) ≡ None → length ks < whole_records limit bytes
     → played limit bytes l ≡ made number.wrong_record ks l
 
 -- `replay.tells`, `answer.refusal`: at 24, 25 and 26 no record is done, and all stays as it was

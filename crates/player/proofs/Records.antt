@@ -14,8 +14,8 @@ use Rattle.answer.specs.declared.Next.{Next}
 use Rattle.answer.specs.Given.{bank_with, controller, given}
 use Rattle.faults.specs.Faults.{fault_number}
 use Rattle.faults.proofs.Guards.{kept}
-use Rattle.letters.specs.declared.Parsed.{Parsed}
-use Rattle.letters.specs.declared.Parsed.TheVariants.{Named, Skipped}
+use Rattle.letters.specs.Named.{Parsed}
+use Rattle.std.specs.Prelude.{Some, None}
 use Rattle.record_model.specs.Record.{record_at, each_record, whole_records}
 use Rattle.record_model.proofs.Each.{goes, stops, ends}
 use Rattle.playback_model.specs.Replay.{Replay, telling, replay_begun, did, wrong, played}
@@ -31,7 +31,7 @@ module _ (l : Controller) (k : Call) (y : Next) (flags commands payloads output 
       ∙ ap (λ (x : State). fault_number (bank_with x y.heads (tables flags commands payloads output)) (length store)) (sym same)
 
   -- and the records after it give what it and they gave
-  pub record_done : (s : State) (n i : ℕ) (bytes : List ℕ) (a : Answer) (all : Replay) (found : Parsed) → s ≡ y.state → i < n → found ≡ record_at bytes i → found ≡ Named k
+  pub record_done : (s : State) (n i : ℕ) (bytes : List ℕ) (a : Answer) (all : Replay) (found : Parsed) → s ≡ y.state → i < n → found ≡ record_at bytes i → found ≡ Some k
       → each_record did wrong (n - i) bytes i (telling 0 i a l) ≡ all
       → each_record did wrong (n - (i + 1)) bytes (i + 1) (telling 0 (i + 1) y.answer (controller (bank_with s y.heads (tables flags commands payloads output)) store output)) ≡ all
   record_done s n i bytes a all found same h e f g =
@@ -44,7 +44,7 @@ module _ (l : Controller) (k : Call) (y : Next) (flags commands payloads output 
 
 module _ (n i : ℕ) (bytes : List ℕ) (a : Answer) (l : Controller) (all x : Replay) (left : each_record did wrong (n - i) bytes i (telling 0 i a l) ≡ all) where
   -- a wrong record
-  pub record_wrong : (found : Parsed) → i < n → found ≡ record_at bytes i → found ≡ Skipped → x ≡ wrong (telling 0 i a l) → x ≡ all
+  pub record_wrong : (found : Parsed) → i < n → found ≡ record_at bytes i → found ≡ None → x ≡ wrong (telling 0 i a l) → x ≡ all
   record_wrong found h e f g = g ∙ stops did wrong n i bytes (telling 0 i a l) h (sym e ∙ f) ∙ left
 
   -- past the last

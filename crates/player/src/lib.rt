@@ -12,7 +12,6 @@ ghost use Rattle.replayed.specs.Given.{replayed_with};
 ghost use Rattle.player.specs.Given.{reached_with};
 
 use bank::{Answer, Bank, Heads, State};
-use letters::Parsed;
 use replayed::{Reached, Replayed};
 
 // A state put together field by field (see `bank::state_with`): as one piece, two pairs of levels stay packed from record
@@ -48,13 +47,13 @@ pub fn replay_parts(
     };
     for i in 0..n {
         match record::at(records, i) {
-            Parsed::Named(c) => {
+            Some(c) => {
                 let y = serve::step_parts(s, h, flags, commands, payloads, store, output, fault, c);
                 s = by_field(y.state);
                 h = y.heads;
                 a = y.answer;
             }
-            Parsed::Skipped => {
+            None => {
                 return replayed::stopped(s, h, i, a);
             }
         }

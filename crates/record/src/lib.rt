@@ -1,28 +1,26 @@
 // Records of a trace (`trace.record`, `trace.wrong`): which call one names, its bytes, and how many some bytes have.
 #![tactic(auto)]
 
-ghost use Rattle.std.specs.Prelude.{◌≡◌, cond, ◌+◌, ◌*◌, ◌<◌, ◌≤◌, length};
-ghost use Rattle.letters.specs.declared.Parsed.TheVariants.{Named, Skipped};
+ghost use Rattle.std.specs.Prelude.{◌≡◌, cond, ◌+◌, ◌*◌, ◌<◌, ◌≤◌, length, Some, None};
 ghost use Rattle.letters.specs.Forms.{form_of};
 ghost use Rattle.record_model.specs.Record.{rec, named_in, record_at, whole_records};
 ghost use Rattle.record_model.specs.Writer.{record_bytes};
 
-use letters::Parsed;
 use model::Call;
 
 // What a record names if it is right.
-fn when(right: bool, c: Call) -> Parsed
-    ensures { result ≡ cond right (Named c) Skipped }
+fn when(right: bool, c: Call) -> Option<Call>
+    ensures { result ≡ cond right (Some c) None }
 {
     if right {
-        return Parsed::Named(c);
+        return Some(c);
     }
-    Parsed::Skipped
+    None
 }
 
 // The call of a record, by its fields. No right record has a field that a remainder cuts.
 #[tactic(auto, unfolding(letters::specs::Forms::forms, letters::specs::Forms::form_with))]
-pub fn named(letter: u8, zero: u8, offset: u32, v: u32, w: u32) -> Parsed
+pub fn named(letter: u8, zero: u8, offset: u32, v: u32, w: u32) -> Option<Call>
     requires { offset < 65536 }
     ensures { result ≡ named_in (form_of letter) (rec letter zero offset v w) }
 {
@@ -49,12 +47,12 @@ pub fn named(letter: u8, zero: u8, offset: u32, v: u32, w: u32) -> Parsed
         ),
         b'D' => when(z & (offset == 0), Call::Request(v, w)),
         b'A' => when(z & ((offset == 0) & ((v == 0) & (w == 0))), Call::Take),
-        _ => Parsed::Skipped,
+        _ => None,
     }
 }
 
 // The call of record i of a section: a layer, no interface.
-pub fn at(records: &[u8], i: usize) -> Parsed
+pub fn at(records: &[u8], i: usize) -> Option<Call>
     requires { 12 * i + 12 ≤ length records.now }
     ensures { result ≡ record_at records.now i }
 {

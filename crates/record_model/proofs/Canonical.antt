@@ -1,16 +1,15 @@
 -- A right record is the one that its call is written as: no two records name one call.
-use Prim.Native.Nat.{ℕ, zero, suc, ◌+◌, ◌-◌, ◌*◌, ◌/◌, ◌%◌, ◌<◌, ◌^◌}
+use Prim.Native.Nat.{ℕ, zero, suc, ◌+◌, ◌*◌, ◌/◌, ◌%◌, ◌<◌, ◌^◌}
 use native.Mathlib.Omega.{arith}
 use native.Mathlib.Nat.{mod-eq_of_lt}
 use mathlib.Core.Path.{◌≡◌, refl, sym, ap, ◌∙◌}
 use mathlib.Core.Bool.{Bool, true, false, cond, ◌&&◌}
 use mathlib.Core.List.{List, [], ◌∷◌, ◌++◌}
-use mathlib.Core.Option.{Option, some}
+use Rattle.std.specs.Prelude.{Option, Some, None}
 use lib.Dec.{eqb}
 use lib.ListN.{length, get_or}
 use borrow.Author.Tests.{eqb-true, ltb-true}
 use Rattle.model.specs.declared.Call.{Call}
-use Rattle.letters.specs.declared.Parsed.TheVariants.{Named, Skipped}
 use Rattle.letters.specs.Forms.{Fields, offset_digits, Form, forms, form_with}
 use Rattle.trace_model.proofs.Table.{and-true}
 use Rattle.record_model.specs.Record.{Record, fields_at, fits, right, named_in}
@@ -94,19 +93,19 @@ unfolding forms
 all_told = (omega arith, (omega arith, (omega arith, (omega arith, omega arith))))
 
 -- a record that names a call has a row, and is right
-named_true : (t : Bool) (c k : Call) → cond t (Named c) Skipped ≡ Named k → (t ≡ true) × (c ≡ k)
+named_true : (t : Bool) (c k : Call) → cond t (Some c) None ≡ Some k → (t ≡ true) × (c ≡ k)
 named_true true c k e = (refl, cc)
 named_true false c k e = absurd (let z : ◌≡◌ {A = ℕ} 0 1 = cc in omega arith)
 
 module _ (r : Record) (k : Call) where
-  by_row : (t : Bool) (f : Form) (o : Option Form) → (t ≡ true → r.letter ≡ f.letter) → Told f → (named_in o r ≡ Named k → record_of k ≡ r)
-      → named_in (cond t (some f) o) r ≡ Named k → record_of k ≡ r
+  by_row : (t : Bool) (f : Form) (o : Option Form) → (t ≡ true → r.letter ≡ f.letter) → Told f → (named_in o r ≡ Some k → record_of k ≡ r)
+      → named_in (cond t (Some f) o) r ≡ Some k → record_of k ≡ r
   by_row true f o l p q e =
       let z = named_true (right f.fields r) (called f r) k e in
       ap record_of (sym z.1) ∙ same (record_of (called f r)) r (p r (l refl) (right_true f.fields r z.0))
   by_row false f o l p q e = q e
 
-  by_rows : (fs : List Form) → AllTold fs → named_in (form_with r.letter fs) r ≡ Named k → record_of k ≡ r
+  by_rows : (fs : List Form) → AllTold fs → named_in (form_with r.letter fs) r ≡ Some k → record_of k ≡ r
   unfolding form_with
   by_rows [] a e = absurd (let z : ◌≡◌ {A = ℕ} 0 1 = cc in omega arith)
   by_rows (f ∷ fs) a e = by_row (eqb r.letter f.letter) f (form_with r.letter fs) (eqb-true _ _) a.0 (by_rows fs a.1) e

@@ -1,11 +1,11 @@
 -- Records one after another.
-use Prim.Native.Nat.{ℕ, zero, suc, ◌+◌, ◌-◌, ◌<◌, ◌≤◌}
+use Prim.Native.Nat.{ℕ, suc, ◌+◌, ◌-◌, ◌<◌, ◌≤◌}
 use native.Mathlib.Omega.{arith}
-use mathlib.Core.Path.{◌≡◌, refl, ap, sym, ◌∙◌}
+use mathlib.Core.Path.{◌≡◌, ap, sym, ◌∙◌}
 use mathlib.Core.List.{List}
 use Rattle.model.specs.declared.Call.{Call}
-use Rattle.letters.specs.declared.Parsed.{Parsed}
-use Rattle.letters.specs.declared.Parsed.TheVariants.{Named, Skipped}
+use Rattle.letters.specs.Named.{Parsed}
+use Rattle.std.specs.Prelude.{Some, None}
 use Rattle.record_model.specs.Record.{record_at, onward, each_record}
 
 module _ {A : Type 0} (make : Call → A → A) (stop : A → A) (n i : ℕ) (bytes : List ℕ) (a : A) where
@@ -14,13 +14,13 @@ module _ {A : Type 0} (make : Call → A → A) (stop : A → A) (n i : ℕ) (by
   at_record h = let e : n - i ≡ suc (n - suc i) = omega (arith, h) in ap (λ (m : ℕ). each_record make stop m bytes i a) e
 
   -- a call is made
-  pub goes : (k : Call) → i < n → record_at bytes i ≡ Named k → each_record make stop (n - (i + 1)) bytes (i + 1) (make k a) ≡ each_record make stop (n - i) bytes i a
+  pub goes : (k : Call) → i < n → record_at bytes i ≡ Some k → each_record make stop (n - (i + 1)) bytes (i + 1) (make k a) ≡ each_record make stop (n - i) bytes i a
   goes k h e =
       let j : i + 1 ≡ suc i = omega arith in
       ap (λ (m : ℕ). each_record make stop (n - m) bytes m (make k a)) j ∙ sym (at_record h ∙ ap (λ (p : Parsed). onward make stop p a (each_record make stop (n - suc i) bytes (suc i))) e)
 
   -- a wrong record stops
-  pub stops : i < n → record_at bytes i ≡ Skipped → stop a ≡ each_record make stop (n - i) bytes i a
+  pub stops : i < n → record_at bytes i ≡ None → stop a ≡ each_record make stop (n - i) bytes i a
   stops h e = sym (at_record h ∙ ap (λ (p : Parsed). onward make stop p a (each_record make stop (n - suc i) bytes (suc i))) e)
 
   -- past the last record

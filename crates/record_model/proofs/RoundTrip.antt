@@ -9,7 +9,7 @@ use lib.ListN.{length, take, drop, length-append}
 use lib.Seq.{take_at, drop_at, take-length, drop-append-add, drop-drop}
 use borrow.Author.Tests.{lt-ltb, le-leb, eq-eqb}
 use Rattle.model.specs.declared.Call.{Call}
-use Rattle.letters.specs.declared.Parsed.TheVariants.{Named}
+use Rattle.std.specs.Prelude.{Some}
 use Rattle.little_endian.specs.Numbers.{four_at}
 use Rattle.trace_model.specs.Format.{mark, begins_with, sections, start_at, count_at, records, section_place, starts_right, table_right, fault, look_number, section}
 use Rattle.trace_model.proofs.Table.{and-true, measured}
@@ -130,7 +130,7 @@ module _ (ss : List (List Call)) (file : List ℕ) (w : Written ss file) where
       ∙ take_at s (all_bytes (drop (suc i) ss)) (12 * count_at file i) (omega (arith, section_length (section_of ss i), (w.entries i h).1))
 
 -- what a section's bytes name
-named_is : (ks : List Call) (bytes : List ℕ) → bytes ≡ section_bytes ks → all_writable ks ≡ true → named_from (length bytes / 12) bytes 0 ≡ map Named ks
+named_is : (ks : List Call) (bytes : List ℕ) → bytes ≡ section_bytes ks → all_writable ks ≡ true → named_from (length bytes / 12) bytes 0 ≡ map Some ks
 named_is ks bytes e a =
     let l : length (section_bytes ks) / 12 ≡ length ks = omega (arith, section_length ks) in
     ap (λ (x : List ℕ). named_from (length x / 12) x 0) e ∙ ap (λ (n : ℕ). named_from n (section_bytes ks) 0) l ∙ section_read ks a

@@ -10,7 +10,7 @@ use lib.Seq.{get_or-append-add}
 use borrow.Author.Tests.{lt-ltb, ltb-true}
 use Rattle.model.specs.declared.Call.{Call}
 use Rattle.model.specs.declared.Call.TheVariants.{Read, Write, Start, Send, Receive, Finish, Interrupt, Request, Take, Trigger}
-use Rattle.letters.specs.declared.Parsed.TheVariants.{Named}
+use Rattle.std.specs.Prelude.{Some}
 use Rattle.letters.specs.Forms.{forms, form_with, form_of}
 use Rattle.little_endian.specs.Numbers.{two_at, four_at}
 use Rattle.trace_model.proofs.Table.{and-true}
@@ -75,7 +75,7 @@ holds (Request v w) e = omega (arith, both v 0x100000000 w 0x100000000 e)
 holds Take e = omega arith
 holds Trigger e = absurd (false≢true e)
 
-pub call_named : (k : Call) → writable k ≡ true → named_in (form_of (record_of k).letter) (record_of k) ≡ Named k
+pub call_named : (k : Call) → writable k ≡ true → named_in (form_of (record_of k).letter) (record_of k) ≡ Some k
 unfolding forms form_with
 call_named (Read o) e = rw e
 call_named (Write o v) e = let h = both o 0x10000 v 0x100000000 e in rw (lt-ltb _ _ h.0, lt-ltb _ _ h.1)
@@ -88,7 +88,7 @@ call_named (Request v w) e = let h = both v 0x100000000 w 0x100000000 e in rw (l
 call_named Take e = refl
 call_named Trigger e = absurd (false≢true e)
 
-pub record_read : (k : Call) (rest : List ℕ) → writable k ≡ true → record_at (record_bytes (record_of k) ++ rest) 0 ≡ Named k
+pub record_read : (k : Call) (rest : List ℕ) → writable k ≡ true → record_at (record_bytes (record_of k) ++ rest) 0 ≡ Some k
 record_read k rest e = ap (λ (r : Record). named_in (form_of r.letter) r) (fields_read (record_of k) rest (holds k e)) ∙ call_named k e
 
 -- ── A section ─────────────────────────────────────────────────────────────────────────────────────────────────
@@ -97,7 +97,7 @@ unfolding named_from
 named_past x y zero i e = refl
 named_past x y (suc n) i e = cc (ap (λ (r : Record). named_in (form_of r.letter) r) (fields_past x y i e), named_past x y n (suc i) e)
 
-pub section_read : (ks : List Call) → all_writable ks ≡ true → named_from (length ks) (section_bytes ks) 0 ≡ map Named ks
+pub section_read : (ks : List Call) → all_writable ks ≡ true → named_from (length ks) (section_bytes ks) 0 ≡ map Some ks
 unfolding named_from section_bytes all_writable
 section_read [] e = refl
 section_read (k ∷ ks) e =

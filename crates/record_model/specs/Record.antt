@@ -1,9 +1,7 @@
 -- A record of a trace (`trace.record`), and the call that it names by the row of its letter in crates/letters/specs/Forms.antt.
-use Rattle.std.specs.Prelude.{ℕ, zero, suc, ◌+◌, ◌*◌, ◌/◌, ◌^◌, Bool, cond, ◌&&◌, List, eqb, ltb, length, get_or}
-use Rattle.std.proofs.Math.Option.{Option, none, some}
+use Rattle.std.specs.Prelude.{ℕ, zero, suc, ◌+◌, ◌*◌, ◌/◌, ◌^◌, Bool, cond, ◌&&◌, List, eqb, ltb, length, get_or, Option, None, Some}
 use Rattle.model.specs.declared.Call.{Call}
-use Rattle.letters.specs.declared.Parsed.{Parsed}
-use Rattle.letters.specs.declared.Parsed.TheVariants.{Named, Skipped}
+use Rattle.letters.specs.Named.{Parsed}
 use Rattle.letters.specs.Forms.{Fields, offset_digits, Form, form_of}
 use Rattle.little_endian.specs.Numbers.{two_at, four_at}
 
@@ -35,18 +33,18 @@ has_offset fs = fs.offset
 abbrev pub right : Fields → Record → Bool
 right fs r = eqb r.zero_byte 0 && (fits (offset_digits fs) r.offset && (fits fs.first r.first && fits fs.second r.second))
 
--- the call of a right record; `Skipped` says of a record that it is wrong
+-- the call of a right record; `None` says of a record that it is wrong
 abbrev pub named_in : Option Form → Record → Parsed
-named_in none r = Skipped
-named_in (some f) r = cond (right f.fields r) (Named (f.call r.offset r.first r.second)) Skipped
+named_in None r = None
+named_in (Some f) r = cond (right f.fields r) (Some (f.call r.offset r.first r.second)) None
 
 abbrev pub record_at : List ℕ → ℕ → Parsed
 record_at bytes i = let r = fields_at bytes i in named_in (form_of r.letter) r
 
 -- a call is made, or a wrong record stops what goes on behind it
 abbrev pub onward : {A : Type 0} → (Call → A → A) → (A → A) → Parsed → A → (A → A) → A
-onward make stop (Named k) a rest = rest (make k a)
-onward make stop Skipped a rest = stop a
+onward make stop (Some k) a rest = rest (make k a)
+onward make stop None a rest = stop a
 
 -- n records, from record i on, one after another
 unfoldable pub each_record : {A : Type 0} → (Call → A → A) → (A → A) → ℕ → List ℕ → ℕ → A → A

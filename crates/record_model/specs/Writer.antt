@@ -1,10 +1,9 @@
 -- A trace as it is written (`trace.form`, `trace.record`), and that what was written is read again.
-use Rattle.std.specs.Prelude.{ℕ, zero, suc, ◌+◌, ◌*◌, ◌/◌, ◌%◌, ◌<◌, ◌≤◌, ◌≡◌, Bool, true, false, ◌&&◌, List, [], ◌∷◌, ◌++◌, map, ltb, length, get_or}
+use Rattle.std.specs.Prelude.{ℕ, zero, suc, ◌+◌, ◌*◌, ◌/◌, ◌%◌, ◌<◌, ◌≤◌, ◌≡◌, Bool, true, false, ◌&&◌, List, [], ◌∷◌, ◌++◌, map, ltb, length, get_or, Some}
 use Prim.Native.Char.{code}
 use Rattle.model.specs.declared.Call.{Call}
 use Rattle.model.specs.declared.Call.TheVariants.{Read, Write, Start, Send, Receive, Finish, Interrupt, Request, Take, Trigger}
-use Rattle.letters.specs.declared.Parsed.{Parsed}
-use Rattle.letters.specs.declared.Parsed.TheVariants.{Named}
+use Rattle.letters.specs.Named.{Parsed}
 use Rattle.trace_model.specs.Format.{mark, look_number, section}
 use Rattle.record_model.specs.Record.{Record, rec, record_at}
 
@@ -81,8 +80,8 @@ every_writable (ks ∷ rest) = all_writable ks && every_writable rest
 -- the calls of a written trace are the calls that were written, for 1 to 64 sections, in a file of 16 MiB at most
 unfoldable pub WrittenIsRead : Type 0
 WrittenIsRead = (ss : List (List Call)) (i : ℕ) → 1 ≤ length ss → length ss ≤ 64 → length (trace_of ss) ≤ 0x1000000 → every_writable ss ≡ true → i < length ss
-    → (look_number (trace_of ss) i ≡ 0) × (named_from (length (section (trace_of ss) i) / 12) (section (trace_of ss) i) 0 ≡ map Named (section_of ss i))
+    → (look_number (trace_of ss) i ≡ 0) × (named_from (length (section (trace_of ss) i) / 12) (section (trace_of ss) i) 0 ≡ map Some (section_of ss i))
 
 -- and the other way, for a record: 12 bytes that name a call are the record that the call is written as
 unfoldable pub RightIsWritten : Type 0
-RightIsWritten = (bytes : List ℕ) (k : Call) → length bytes ≡ 12 → ((i : ℕ) → get_or bytes i 0 < 256) → record_at bytes 0 ≡ Named k → record_bytes (record_of k) ≡ bytes
+RightIsWritten = (bytes : List ℕ) (k : Call) → length bytes ≡ 12 → ((i : ℕ) → get_or bytes i 0 < 256) → record_at bytes 0 ≡ Some k → record_bytes (record_of k) ≡ bytes

@@ -4,7 +4,7 @@ use mathlib.Core.Path.{◌≡◌, sym, ap, ap₂, ◌∙◌}
 use mathlib.Core.List.{List, [], ◌∷◌, ◌++◌, foldl, append-nil, append_assoc, foldl-append}
 use lib.Dec.{eqb}
 use Rattle.model.specs.Rings.{Controller}
-use Rattle.letters.specs.declared.Parsed.{Parsed}
+use Rattle.letters.specs.Named.{Parsed}
 use Rattle.lines.specs.declared.Reading.{Reading}
 use Rattle.lines.specs.Lines.{before, behind}
 use Rattle.lines.specs.Automaton.{unread, eat_of, reading_of}

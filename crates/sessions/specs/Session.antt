@@ -1,5 +1,5 @@
 -- A session, 01, 'A session': bytes come in, lines are told apart, calls made, answers printed.
-use Rattle.std.specs.Prelude.{ℕ, ◌≡◌, cond, eqb, take}
+use Rattle.std.specs.Prelude.{ℕ, ◌≡◌, cond, eqb, take, Some, None}
 use mathlib.Core.List.{List, [], ◌∷◌, ◌++◌, foldl}
 use Rattle.bank.specs.declared.Answer.{Answer}
 use Rattle.model.specs.Engine.{step}
@@ -10,8 +10,7 @@ use Rattle.lines.specs.declared.Reading.{Reading}
 use Rattle.sessions.specs.declared.Ran.{Ran}
 use Rattle.sessions.specs.declared.Ended.{Ended}
 use Rattle.sessions.specs.declared.SessionTurn.{SessionTurn}
-use Rattle.letters.specs.declared.Parsed.{Parsed}
-use Rattle.letters.specs.declared.Parsed.TheVariants.{Named, Skipped}
+use Rattle.letters.specs.Named.{Parsed}
 use Rattle.lines.specs.Lines.{before, behind, line_names}
 use Rattle.lines.specs.Automaton.{unread, eat_of, call_read}
 
@@ -28,8 +27,8 @@ answer_line a = line_of a.value a.number
 
 -- `session.answers`: the call of a line is made and its answer printed; a line that names none is skipped (`session.lines`)
 abbrev pub ran_of : Controller → Parsed → Printed
-ran_of l Skipped = with_text l []
-ran_of l (Named c) = let s = step rings l c in with_text s.next (answer_line s.answer)
+ran_of l None = with_text l []
+ran_of l (Some c) = let s = step rings l c in with_text s.next (answer_line s.answer)
 
 -- what `run` gives
 abbrev pub ran_told : Ran → List ℕ → List ℕ → Printed

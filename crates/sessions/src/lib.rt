@@ -3,15 +3,13 @@
 // takes the text.
 #![tactic(auto)]
 
-ghost use Rattle.std.specs.Prelude.{◌≡◌, List, [], ℕ, ◌+◌, ◌*◌, ◌≤◌, length, take};
+ghost use Rattle.std.specs.Prelude.{◌≡◌, List, [], ℕ, ◌+◌, ◌*◌, ◌≤◌, length, take, Some, None};
 ghost use Rattle.answer.specs.Given.{controller};
 ghost use Rattle.answer.specs.Memory.{bank_lent};
-ghost use Rattle.letters.specs.declared.Parsed.TheVariants.{Named, Skipped};
 ghost use Rattle.lines.specs.Automaton.{call_read};
 ghost use Rattle.sessions.specs.Session.{ran_of, ran_told, ended_session, fed_session, session, line_end, session_fed};
 
 use bank::Bank;
-use letters::Parsed;
 use lines::Reading;
 use model::Call;
 
@@ -25,7 +23,7 @@ pub struct Ran {
 
 // A call and its line.
 fn serve(b: Bank, store: &mut [u32], output: &mut [u32], c: Call) -> Ran
-    ensures { ran_told result store.new output.new ≡ ran_of (bank_lent b store output) (Named c) }
+    ensures { ran_told result store.new output.new ≡ ran_of (bank_lent b store output) (Some c) }
 {
     let out = controller::step(b, store, output, c);
     let text = print::line(out.answer);
@@ -39,7 +37,7 @@ fn serve(b: Bank, store: &mut [u32], output: &mut [u32], c: Call) -> Ran
 
 // A line that names no call: the bank as it was, nothing printed.
 fn silent(b: Bank) -> Ran
-    ensures { (s o : List ℕ) → ran_told result s o ≡ ran_of (controller b s o) Skipped }
+    ensures { (s o : List ℕ) → ran_told result s o ≡ ran_of (controller b s o) None }
 {
     Ran {
         bank: b,
@@ -53,8 +51,8 @@ pub fn run(b: Bank, store: &mut [u32], output: &mut [u32], line: Reading) -> Ran
     ensures { ran_told result store.new output.new ≡ ran_of (bank_lent b store output) (call_read line) }
 {
     match lines::named(line) {
-        Parsed::Named(c) => serve(b, store, output, c),
-        Parsed::Skipped => silent(b),
+        Some(c) => serve(b, store, output, c),
+        None => silent(b),
     }
 }
 

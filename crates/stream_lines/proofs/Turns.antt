@@ -13,8 +13,8 @@ use Rattle.answer.specs.declared.Next.{Next}
 use Rattle.answer.specs.Given.{bank_with, controller, given}
 use Rattle.faults.specs.Faults.{fault_number}
 use Rattle.faults.proofs.Guards.{kept}
-use Rattle.letters.specs.declared.Parsed.{Parsed}
-use Rattle.letters.specs.declared.Parsed.TheVariants.{Named, Skipped}
+use Rattle.letters.specs.Named.{Parsed}
+use Rattle.std.specs.Prelude.{Some, None}
 use Rattle.print.specs.Line.{line_of}
 use Rattle.record_model.specs.Record.{record_at, each_record}
 use Rattle.record_model.proofs.Each.{stops, ends}
@@ -31,14 +31,14 @@ module _ (l : Controller) (k : Call) (y : Next) (flags commands payloads output 
   fault_kept fault e = e ∙ sym (kept l k) ∙ ap (λ (x : Step Controller). fault_number x.next.bank (length x.next.store)) (sym made)
 
   -- and the records after it give what it and they gave
-  pub line_done : (n i : ℕ) (bytes t text out : List ℕ) (all : RecordsPrinted) (found : Parsed) → i < n → found ≡ record_at bytes i → found ≡ Named k
+  pub line_done : (n i : ℕ) (bytes t text out : List ℕ) (all : RecordsPrinted) (found : Parsed) → i < n → found ≡ record_at bytes i → found ≡ Some k
       → text ≡ line_of y.answer.value y.answer.number → take (12 * i + 12) out ≡ t ++ text → each_record said met (n - i) bytes i (records_printed l t false) ≡ all
       → each_record said met (n - (i + 1)) bytes (i + 1) (records_printed (controller (bank_with y.state y.heads (tables flags commands payloads output)) store output) (take (12 * (i + 1)) out) false) ≡ all
   line_done n i bytes t text out all found h e f g p r = next n i bytes l k (given y (tables flags commands payloads output) store) t text out h (sym e ∙ f) made g p ∙ r
 
 module _ (n i : ℕ) (bytes out : List ℕ) (l : Controller) (all : RecordsPrinted) (left : each_record said met (n - i) bytes i (records_printed l (take (12 * i) out) false) ≡ all) where
   -- a wrong record
-  pub line_wrong : (found : Parsed) → i < n → found ≡ record_at bytes i → found ≡ Skipped → records_printed l (take (12 * i) out) true ≡ all
+  pub line_wrong : (found : Parsed) → i < n → found ≡ record_at bytes i → found ≡ None → records_printed l (take (12 * i) out) true ≡ all
   line_wrong found h e f = stops said met n i bytes (records_printed l (take (12 * i) out) false) h (sym e ∙ f) ∙ left
 
   -- past the last

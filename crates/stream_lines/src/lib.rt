@@ -12,7 +12,6 @@ ghost use Rattle.stream_model.specs.Stream.{lines};
 ghost use Rattle.stream_lines.specs.Given.{shown_parts, shown_with, shown_bank};
 
 use bank::{Bank, Heads, State};
-use letters::Parsed;
 
 // The state and the heads after some records, whether a wrong one was met, and how many bytes of the text are filled.
 #[derive(Clone, Copy)]
@@ -52,14 +51,14 @@ fn show_parts(
     let mut h = heads;
     for i in 0..n {
         match record::at(records, i) {
-            Parsed::Named(c) => {
+            Some(c) => {
                 let y = serve::step_parts(s, h, flags, commands, payloads, store, output, fault, c);
                 s = y.state;
                 h = y.heads;
                 let text = print::line(y.answer);
                 print::put(out, 12 * i, text);
             }
-            Parsed::Skipped => {
+            None => {
                 return Lines {
                     state: s,
                     heads: h,

@@ -17,7 +17,7 @@ use Rattle.model.proofs.Demand.{demand}
 use Rattle.data_model.specs.Account.{KeepsData, DataKept}
 use Rattle.data_model.proofs.Account.{data_kept}
 use Rattle.print.specs.Line.{line_of}
-use Rattle.letters.specs.declared.Parsed.{Parsed}
+use Rattle.letters.specs.Named.{Parsed}
 use Rattle.trace_model.specs.declared.Head.{Head}
 use Rattle.trace_model.specs.declared.Head.TheVariants.{More, Wrong}
 use Rattle.trace_model.specs.Format.{mark, begins_with, sections, records, section_place, fault}

@@ -10,8 +10,8 @@ use Rattle.model.specs.declared.Call.{Call}
 use Rattle.model.specs.Engine.{step}
 use Rattle.model.specs.Rings.{Controller, rings}
 use Rattle.print.specs.Line.{line_of}
-use Rattle.letters.specs.declared.Parsed.{Parsed}
-use Rattle.letters.specs.declared.Parsed.TheVariants.{Named, Skipped}
+use Rattle.letters.specs.Named.{Parsed}
+use Rattle.std.specs.Prelude.{Some, None}
 use Rattle.letters.specs.Forms.{form_of}
 use Rattle.lines.proofs.Choices.{chosen, passed}
 use Rattle.little_endian.specs.Numbers.{two_at, four_at}
@@ -64,8 +64,8 @@ module _ {A : Type 0} (make : Call → A → A) (stop : A → A) where
   -- a change f that the steps for a call and for a wrong record respect
   module _ (f : A → A) (makes : (k : Call) (x : A) → f (make k x) ≡ make k (f x)) (stops : (x : A) → f (stop x) ≡ stop (f x)) where
     onward_carried : (p : Parsed) (x : A) (rest : A → A) → ((y : A) → f (rest y) ≡ rest (f y)) → f (onward make stop p x rest) ≡ onward make stop p (f x) rest
-    onward_carried (Named k) x rest h = h (make k x) ∙ ap rest (makes k x)
-    onward_carried Skipped x rest h = stops x
+    onward_carried (Some k) x rest h = h (make k x) ∙ ap rest (makes k x)
+    onward_carried None x rest h = stops x
 
     each_carried : (n i : ℕ) (bytes : List ℕ) (x : A) → f (each_record make stop n bytes i x) ≡ each_record make stop n bytes i (f x)
     unfolding each_record
@@ -79,8 +79,8 @@ onto p go = cond p.wrong p (go p)
 
 onward_onto : (x : Parsed) (p : RecordsPrinted) (whole first go : RecordsPrinted → RecordsPrinted) → ((q : RecordsPrinted) → q.wrong ≡ false → whole q ≡ onto (first q) go)
     → onward said met x p whole ≡ onto (onward said met x p first) go
-onward_onto (Named k) p whole first go h = h (said k p) refl
-onward_onto Skipped p whole first go h = refl
+onward_onto (Some k) p whole first go h = h (said k p) refl
+onward_onto None p whole first go h = refl
 
 two_runs : (n k i : ℕ) (bytes : List ℕ) (p : RecordsPrinted) → p.wrong ≡ false → each_record said met (n + k) bytes i p ≡ onto (each_record said met n bytes i p) (each_record said met k bytes (n + i))
 unfolding each_record

@@ -9,7 +9,7 @@ use lib.ListN.{length, take}
 use Rattle.model.specs.declared.Call.{Call}
 use Rattle.model.specs.Engine.{Step, step}
 use Rattle.model.specs.Rings.{Controller, rings}
-use Rattle.letters.specs.declared.Parsed.TheVariants.{Named}
+use Rattle.std.specs.Prelude.{Some}
 use Rattle.print.specs.Line.{line_of}
 use Rattle.record_model.specs.Record.{record_at, each_record, whole_records}
 use Rattle.record_model.proofs.Each.{goes}
@@ -17,7 +17,7 @@ use Rattle.stream_model.specs.declared.Stage.TheVariants.{Records}
 use Rattle.stream_model.specs.Stream.{RecordsPrinted, records_printed, said, met, lines, Stream, stream, over, records_of}
 
 -- one record more, and its line behind those before
-pub next : (n i : ℕ) (bytes : List ℕ) (l : Controller) (k : Call) (x : Step Controller) (t text out : List ℕ) → i < n → record_at bytes i ≡ Named k → x ≡ step rings l k
+pub next : (n i : ℕ) (bytes : List ℕ) (l : Controller) (k : Call) (x : Step Controller) (t text out : List ℕ) → i < n → record_at bytes i ≡ Some k → x ≡ step rings l k
     → text ≡ line_of x.answer.value x.answer.number → take (12 * i + 12) out ≡ t ++ text
     → each_record said met (n - (i + 1)) bytes (i + 1) (records_printed x.next (take (12 * (i + 1)) out) false) ≡ each_record said met (n - i) bytes i (records_printed l t false)
 next n i bytes l k x t text out h e f g p =

@@ -13,7 +13,7 @@ use Rattle.model.specs.Demand.{Tally, tally}
 use Rattle.data_model.specs.Ledger.{Ledger, ledger}
 use Rattle.data_model.specs.Account.{KeepsData}
 use Rattle.print.specs.Line.{line_of}
-use Rattle.letters.specs.declared.Parsed.{Parsed}
+use Rattle.letters.specs.Named.{Parsed}
 use Rattle.trace_model.specs.Format.{mark, begins_with, sections, records, section_place}
 use Rattle.trace_model.specs.Head.{head_length}
 use Rattle.record_model.specs.Record.{whole_records}

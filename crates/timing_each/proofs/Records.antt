@@ -11,8 +11,8 @@ use Rattle.model.specs.Engine.{Step, step}
 use Rattle.model.specs.Rings.{Controller, rings}
 use Rattle.answer.specs.declared.Out.{Out}
 use Rattle.answer.specs.Given.{controller, given_out}
-use Rattle.letters.specs.declared.Parsed.{Parsed}
-use Rattle.letters.specs.declared.Parsed.TheVariants.{Named, Skipped}
+use Rattle.letters.specs.Named.{Parsed}
+use Rattle.std.specs.Prelude.{Some, None}
 use Rattle.trace_model.specs.Format.{look_number, section}
 use Rattle.trace_model.proofs.Sections.{refused}
 use Rattle.record_model.specs.Record.{record_at, each_record, whole_records}
@@ -22,7 +22,7 @@ use Rattle.playback_model.proofs.Laws.{refuses, plays}
 
 -- a call is made: the records after it give what it and they gave
 module _ (l : Controller) (k : Call) (y : Out) (output store : List ℕ) (made : given_out y store output ≡ step rings l k) where
-  pub record_done : (n i : ℕ) (bytes : List ℕ) (a : Answer) (all : Replay) (found : Parsed) → i < n → found ≡ record_at bytes i → found ≡ Named k
+  pub record_done : (n i : ℕ) (bytes : List ℕ) (a : Answer) (all : Replay) (found : Parsed) → i < n → found ≡ record_at bytes i → found ≡ Some k
       → each_record did wrong (n - i) bytes i (telling 0 i a l) ≡ all
       → each_record did wrong (n - (i + 1)) bytes (i + 1) (telling 0 (i + 1) y.answer (controller y.bank store output)) ≡ all
   record_done n i bytes a all found h e f g =
@@ -38,7 +38,7 @@ module _ (n i : ℕ) (bytes : List ℕ) (a : Answer) (b : Bank) (store output : 
   abbrev l : Controller
   l = controller b store output
 
-  module _ (found : Parsed) (h : i < n) (e : found ≡ record_at bytes i) (f : found ≡ Skipped) where
+  module _ (found : Parsed) (h : i < n) (e : found ≡ record_at bytes i) (f : found ≡ None) where
     stopped : wrong (telling 0 i a l) ≡ all
     stopped = stops did wrong n i bytes (telling 0 i a l) h (sym e ∙ f) ∙ left
 

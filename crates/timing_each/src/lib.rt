@@ -12,7 +12,6 @@ ghost use Rattle.timing.specs.Timing.{timed, timed_of};
 
 use answer::Out;
 use bank::{Answer, Bank};
-use letters::Parsed;
 use model::Call;
 use playback_model::Report;
 
@@ -41,7 +40,7 @@ fn replay_records(b: Bank, store: &mut [u32], records: &[u8], n: usize) -> Repor
     let mut none = [0u32; 0];
     for i in 0..n {
         let named = record::at(records, i);
-        let Parsed::Named(call) = named else {
+        let Some(call) = named else {
             return Report {
                 number: number::WRONG_RECORD,
                 count: i,

@@ -6,7 +6,6 @@ ghost use Rattle.std.specs.Prelude.{◌+◌, ◌*◌, ◌≤◌, length};
 
 use answer::Out;
 use bank::{Answer, Bank, Sizes};
-use letters::Parsed;
 use lines::Reading;
 use model::Call;
 use std::io::{Read, Write};
@@ -217,8 +216,8 @@ fn call(board: Board, store: &mut [u32], c: Call) -> Ended {
 // A line that a session has too.
 fn session_line(board: Board, store: &mut [u32], r: Reading) -> Ended {
     match lines::named(r) {
-        Parsed::Named(c) => call(board, store, c),
-        Parsed::Skipped => silent(board),
+        Some(c) => call(board, store, c),
+        None => silent(board),
     }
 }
 

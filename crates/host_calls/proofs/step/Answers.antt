@@ -20,8 +20,8 @@ returns-then-not-parts_formed c =
     let n = not_formed k (ap well_formed (sym b) ∙ sym (c.if-not-parts_formed.ensures a.payloads.now)) in
     refuses _ _ k _ _ _ c.refused.ensures (no_bank k a.store.now a.output.now (call_of a.letter a.offset a.first a.second) n)
 
-pub returns-in-Named : goal.returns-in-Named
-returns-in-Named c =
+pub returns-in-Some : goal.returns-in-Some
+returns-in-Some c =
     let a = c.args in
     let q = call_of a.letter a.offset a.first a.second in
     let k = kept a.image.now a.flags.now a.commands.now a.payloads.now in
@@ -30,11 +30,11 @@ returns-in-Named c =
     let s = ap (λ (x : Bank). step rings (controller x a.store.now a.output.now) c.in-Named.c) b in
     c.make.ensures ∙ ap packed_step (one_call k a.store.now a.output.now q c.in-Named.c _ t (sym c.in-Named.ensures) s)
 
-pub returns-in-Skipped : goal.returns-in-Skipped
-returns-in-Skipped c =
+pub returns-in-None : goal.returns-in-None
+returns-in-None c =
     let a = c.args in
     let q = call_of a.letter a.offset a.first a.second in
     let k = kept a.image.now a.flags.now a.commands.now a.payloads.now in
     let b = said_by_parts k _ _ c.state_in-s.ensures c.heads_in-h.ensures in
     let t = formed_kept k c.requires.1 c.requires.2 ∙ ap well_formed (sym b) ∙ sym (c.if-not-parts_formed.ensures a.payloads.now) in
-    refuses _ _ k _ _ _ c.refused-in-Skipped.ensures (no_call k a.store.now a.output.now q t (sym c.in-Skipped.ensures))
+    refuses _ _ k _ _ _ c.refused-in-None.ensures (no_call k a.store.now a.output.now q t (sym c.in-None.ensures))

@@ -3,9 +3,9 @@ use Rattle.std.proofs.Common.{arith}
 use Rattle.player.proofs.Records.{fault_kept, record_done, record_wrong, records_done}
 use Rattle.player.proofs.replay_parts.Goals as goal
 
-pub returns-in-Skipped : goal.returns-in-Skipped
-returns-in-Skipped c =
-    record_wrong _ _ _ _ _ _ _ c.loop-i.invariant.rest c.at.result c.loop-i-test.true c.at.ensures c.in-Skipped.is (c.stopped.ensures _ _)
+pub returns-in-None : goal.returns-in-None
+returns-in-None c =
+    record_wrong _ _ _ _ _ _ _ c.loop-i.invariant.rest c.at.result c.loop-i-test.true c.at.ensures c.in-None.is (c.stopped.ensures _ _)
 
 pub loop-i-preserved : goal.loop-i-preserved
 loop-i-preserved c =

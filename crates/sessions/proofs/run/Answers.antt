@@ -4,7 +4,7 @@ use Rattle.answer.specs.Given.{controller}
 use Rattle.sessions.specs.Session.{ran_of}
 use Rattle.sessions.proofs.run.Goals as goal
 
-pub returns-in-Skipped : goal.returns-in-Skipped
-returns-in-Skipped c =
+pub returns-in-None : goal.returns-in-None
+returns-in-None c =
     let a = c.args in
-    c.silent.ensures a.store.now a.output.now ∙ ap (ran_of (controller a.b a.store.now a.output.now)) c.in-Skipped.ensures
+    c.silent.ensures a.store.now a.output.now ∙ ap (ran_of (controller a.b a.store.now a.output.now)) c.in-None.ensures

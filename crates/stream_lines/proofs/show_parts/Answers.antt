@@ -14,9 +14,9 @@ loop-i-preserved c =
           c.in-Named.is c.line-text.ensures c.put.ensures l.invariant.rest;
     }
 
-pub returns-in-Skipped : goal.returns-in-Skipped
-returns-in-Skipped c =
-    (line_wrong _ _ _ _ _ _ c.loop-i.invariant.rest c.at.result c.loop-i-test.true c.at.ensures c.in-Skipped.is, omega arith)
+pub returns-in-None : goal.returns-in-None
+returns-in-None c =
+    (line_wrong _ _ _ _ _ _ c.loop-i.invariant.rest c.at.result c.loop-i-test.true c.at.ensures c.in-None.is, omega arith)
 
 pub returns : goal.returns
 returns c = (lines_done _ _ _ _ _ _ c.loop-i.invariant.rest (omega arith) c.loop-i-test.false, omega arith)

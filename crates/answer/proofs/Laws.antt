@@ -2,7 +2,7 @@
 use Prim.Native.Nat.{ℕ}
 use mathlib.Core.List.{List}
 use Rattle.bank.specs.declared.State.{State}
-use Rattle.bank.specs.declared.Heads.{Heads}
+use Rattle.bank.specs.Fives.{Heads}
 use Rattle.bank.specs.Queues.{queues_of}
 use Rattle.bank.specs.Ready.{Ready}
 use Rattle.bank.proofs.Laws.{ready}

@@ -1,8 +1,8 @@
 -- Contracts of calls: what code gives, as a step of the ring engine, and what it may ask past the two tests of bank and store.
 use Rattle.std.specs.Prelude.{ℕ, ◌≡◌, true, List, length}
 use Rattle.std.proofs.Math.Option.{none}
-use Rattle.bank.specs.declared.Counts.{Counts}
-use Rattle.bank.specs.declared.Heads.{Heads}
+use Rattle.bank.specs.Fives.{Counts}
+use Rattle.bank.specs.Fives.{Heads}
 use Rattle.bank.specs.declared.Regs.{Regs}
 use Rattle.bank.specs.declared.Control.{Control}
 use Rattle.bank.specs.declared.Phase.{Phase}

@@ -4,7 +4,7 @@ use Rattle.std.specs.Borrow.{MutBor}
 use denote.Triple.Both.{Both}
 use Rattle.bank.specs.declared.Bank.{Bank}
 use Rattle.bank.specs.declared.State.{State}
-use Rattle.bank.specs.declared.Heads.{Heads}
+use Rattle.bank.specs.Fives.{Heads}
 use Rattle.model.specs.View.{Tables, tables}
 use Rattle.model.specs.Engine.{Step}
 use Rattle.model.specs.Rings.{Controller}

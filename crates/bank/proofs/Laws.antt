@@ -11,7 +11,7 @@ use Rattle.ring.specs.declared.Ring.{Ring}
 use Rattle.ring.specs.Ring.{Valid}
 use Rattle.ring.specs.Units.{words}
 use Rattle.bank.specs.declared.Bank.{Bank}
-use Rattle.bank.specs.declared.Sizes.{Sizes}
+use Rattle.bank.specs.Fives.{Sizes}
 use Rattle.bank.specs.declared.SetUp.{SetUp}
 use Rattle.bank.specs.Queues.{Queues, ring, queues_in, caps_of}
 use Rattle.bank.specs.SetUp.{size_ok, caps_ok, marks_ok, counts_of, sizes_ok, bank_of, refused_set_up, set_up, total}

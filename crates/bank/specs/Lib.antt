@@ -1,3 +1,4 @@
+pub mod Fives
 pub mod Bits
 pub mod Phases
 pub mod Bursts

@@ -1,18 +1,15 @@
 -- The five rings of a bank, in the order of `store.order`, put together from its numbers: capacities and levels in the state, heads beside
 -- it.
 use Rattle.std.specs.Prelude.{ℕ}
+use Rattle.queues.specs.declared.Five.{Five}
 use Rattle.ring.specs.declared.Words.{Words}
 use Rattle.ring.specs.declared.Ring.{Ring}
-use Rattle.bank.specs.declared.Counts.{Counts}
-use Rattle.bank.specs.declared.Heads.{Heads}
+use Rattle.bank.specs.Fives.{Counts}
+use Rattle.bank.specs.Fives.{Heads}
 use Rattle.bank.specs.declared.Bank.{Bank}
 
-pub record Queues : Type 0 where
-  pub cmd : Ring
-  pub cmdr : Ring
-  pub sdo : Ring
-  pub sdi : Ring
-  pub ibi : Ring
+abbrev pub Queues : Type 0
+Queues = Five Ring
 
 abbrev pub ring : Words → ℕ → Words → Ring
 ring cap head level = record { cap = cap; head = head; level = level }

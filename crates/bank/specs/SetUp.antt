@@ -3,13 +3,13 @@
 use Rattle.std.specs.Prelude.{ℕ, ◌+◌, Bool, true, false, cond, ◌&&◌, leb, replicate}
 use Rattle.number.specs.Names as number
 use Rattle.ring.specs.Units.{words}
-use Rattle.bank.specs.declared.Counts.{Counts}
-use Rattle.bank.specs.declared.Heads.{Heads}
+use Rattle.bank.specs.Fives.{Counts}
+use Rattle.bank.specs.Fives.{Heads}
 use Rattle.bank.specs.declared.Latest.{Latest}
 use Rattle.bank.specs.declared.Control.{Control}
 use Rattle.bank.specs.declared.Phase.TheVariants.{Idle}
 use Rattle.bank.specs.declared.Bank.{Bank}
-use Rattle.bank.specs.declared.Sizes.{Sizes}
+use Rattle.bank.specs.Fives.{Sizes}
 use Rattle.bank.specs.declared.SetUp.{SetUp}
 
 -- `set-up.numbers`: a capacity, from the least that its queue may have

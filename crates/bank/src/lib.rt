@@ -3,31 +3,23 @@
 // is well formed. It knows no call.
 #![tactic(auto)]
 
-ghost use Rattle.std.specs.Prelude.{◌≡◌, cond, ◌+◌, ◌-◌, get_or};
+ghost use Rattle.std.specs.Prelude.{◌≡◌, cond, ◌+◌, ◌-◌, ◌<◌, get_or};
+ghost use Rattle.number.specs.Refusals.{number_of};
 ghost use Rattle.bank.specs.Bits.{bit};
 ghost use Rattle.bank.specs.SetUp.{size_ok, marks_ok, cleared, total};
 
+use number::Refusal;
+use queues::Five;
 use ring::{Bytes, Words};
 
 // A count of words for each queue: capacities, levels or watermarks.
-#[derive(Clone, Copy)]
-pub struct Counts {
-    pub cmd: Words,
-    pub cmdr: Words,
-    pub sdo: Words,
-    pub sdi: Words,
-    pub ibi: Words,
-}
+pub type Counts = Five<Words>;
 
 // Where the first word of each queue lies within its area of the store.
-#[derive(Clone, Copy)]
-pub struct Heads {
-    pub cmd: u32,
-    pub cmdr: u32,
-    pub sdo: u32,
-    pub sdi: u32,
-    pub ibi: u32,
-}
+pub type Heads = Five<u32>;
+
+// Five capacities, or five watermarks, as a caller gives them.
+pub type Sizes = Five<u32>;
 
 // The registers that a reset leaves (`enable.keeps`): ID, SCRATCH, IRQ_MASK, OPS but its bit 7, IBI_CONFIG, the address
 // that DEV_CHAR selects, and the watermarks.
@@ -127,14 +119,23 @@ pub struct Answer {
     pub number: u32,
 }
 
-// Five capacities, or five watermarks, as a caller gives them.
-#[derive(Clone, Copy)]
-pub struct Sizes {
-    pub cmd: u32,
-    pub cmdr: u32,
-    pub sdo: u32,
-    pub sdi: u32,
-    pub ibi: u32,
+impl Answer {
+    // Done, with a value.
+    pub fn done(value: u32) -> Answer
+        ensures { result ≡ record { value = value; number = 0 } }
+    {
+        Answer { value, number: 0 }
+    }
+
+    // A refusal has the value 0 (`answer.refusal`).
+    pub fn refused(why: Refusal) -> Answer
+        ensures { result ≡ record { value = 0; number = number_of why } }
+    {
+        Answer {
+            value: 0,
+            number: u32::from(why),
+        }
+    }
 }
 
 // What set-up gives.
@@ -173,26 +174,19 @@ pub fn cleared_control(held: bool) -> Control
         ibi: 0,
     };
     Control {
-        held: held,
+        held,
         sync: 0,
         ibisync: 0,
         cmdrpending: false,
         ibipending: false,
         daapending: false,
         burst: 0,
-        latest: latest,
+        latest,
     }
 }
 
-// One of two numbers, by a test.
-pub fn select(test: bool, yes: u32, no: u32) -> u32
-    ensures { result ≡ cond test yes no }
-{
-    if test { yes } else { no }
-}
-
-// One of two truth values, by a test.
-pub fn choose(test: bool, yes: bool, no: bool) -> bool
+// One of two values, by a test.
+pub fn select<T: Copy>(test: bool, yes: T, no: T) -> T
     ensures { result ≡ cond test yes no }
 {
     if test { yes } else { no }
@@ -212,36 +206,10 @@ pub fn total_of(k: Counts) -> usize
     sum_of_five(k.cmd.0, k.cmdr.0, k.sdo.0, k.sdi.0, k.ibi.0)
 }
 
-// The parts of a state put together field by field: fields that are copied in one piece stay in memory through a list
-// of calls, stored one by one and loaded together, which stalls.
-pub fn counts_by_field(f: Counts) -> Counts
-    ensures { result ≡ f }
-{
-    Counts {
-        cmd: Words(f.cmd.0),
-        cmdr: Words(f.cmdr.0),
-        sdo: Words(f.sdo.0),
-        sdi: Words(f.sdi.0),
-        ibi: Words(f.ibi.0),
-    }
-}
-
-pub fn heads_by_field(h: Heads) -> Heads
-    ensures { result ≡ h }
-{
-    Heads {
-        cmd: h.cmd,
-        cmdr: h.cmdr,
-        sdo: h.sdo,
-        sdi: h.sdi,
-        ibi: h.ibi,
-    }
-}
-
+// The parts of a state put together field by field: see `Five::by_field`.
 fn regs_by_field(g: Regs) -> Regs
     ensures { result ≡ g }
 {
-    let marks = counts_by_field(g.marks);
     Regs {
         id: g.id,
         scratch: g.scratch,
@@ -249,18 +217,17 @@ fn regs_by_field(g: Regs) -> Regs
         ops: g.ops,
         config: g.config,
         selected: g.selected,
-        marks: marks,
+        marks: g.marks.by_field(),
     }
 }
 
 fn control_by_field(c: Control) -> Control
     ensures { result ≡ c }
 {
-    let w = c.latest;
     let latest = Latest {
-        cmdr: w.cmdr,
-        sdi: w.sdi,
-        ibi: w.ibi,
+        cmdr: c.latest.cmdr,
+        sdi: c.latest.sdi,
+        ibi: c.latest.ibi,
     };
     Control {
         held: c.held,
@@ -270,52 +237,43 @@ fn control_by_field(c: Control) -> Control
         ibipending: c.ibipending,
         daapending: c.daapending,
         burst: c.burst,
-        latest: latest,
+        latest,
     }
 }
 
-pub fn state_with(caps: Counts, levels: Counts, g: Regs, c: Control, p: Phase) -> State
-    ensures { result ≡ record { caps = caps; levels = levels; regs = g; control = c; phase = p } }
-{
-    let k = counts_by_field(caps);
-    let l = counts_by_field(levels);
-    let regs = regs_by_field(g);
-    let control = control_by_field(c);
-    State {
-        caps: k,
-        levels: l,
-        regs: regs,
-        control: control,
-        phase: p,
+impl State {
+    // The same state, put together field by field.
+    pub fn by_field(self) -> State
+        ensures { result ≡ self }
+    {
+        State {
+            caps: self.caps.by_field(),
+            levels: self.levels.by_field(),
+            regs: regs_by_field(self.regs),
+            control: control_by_field(self.control),
+            phase: self.phase,
+        }
     }
 }
 
-// Whether the lowest bit of a word, or of a byte, is set.
-pub fn low_bit(v: u32) -> bool
-    ensures { result ≡ bit 0 v }
+// Whether bit `k` of a word is set.
+pub fn bit(k: u32, v: u32) -> bool
+    requires { k < 32 }
+    ensures { result ≡ bit k v }
 {
-    v % 2 == 1
-}
-
-pub fn byte_low_bit(v: u8) -> bool
-    ensures { result ≡ bit 0 v }
-{
-    v % 2 == 1
+    v >> k & 1 == 1
 }
 
 // The free places of a queue (`room.read`).
 pub fn room(cap: u32, level: u32) -> u32
     ensures { result ≡ cap - level }
 {
-    if level <= cap { cap - level } else { 0 }
+    cap.saturating_sub(level)
 }
 
-// A word of a table, or 0 past its end.
-pub fn word_at(words: &[u32], i: usize) -> u32
-    ensures { result ≡ get_or words.now i 0 }
+// An entry of a table, or `none` past its end.
+pub fn entry_at<T: Copy>(table: &[T], i: usize, none: T) -> T
+    ensures { result ≡ get_or table.now i none }
 {
-    if i < words.len() {
-        return words[i];
-    }
-    0
+    table.get(i).copied().unwrap_or(none)
 }

@@ -11,21 +11,21 @@ use ring::Bytes;
 pub fn is_offload(g: Regs) -> bool
     ensures { result ≡ offloads g }
 {
-    bank::byte_low_bit(g.ops)
+    bank::bit(0, u32::from(g.ops))
 }
 
 // How many offload commands a burst runs (`burst.commands`).
 pub fn span_of(g: Regs) -> usize
     ensures { (result ≡ span g) × (result ≤ 15) }
 {
-    (g.ops / 2 % 16) as usize
+    usize::from(g.ops / 2 % 16)
 }
 
 // Whether a burst can run a command: a private one of at most 4 bytes (29 of `trigger.tests`).
 fn is_carried(w: u32) -> bool
     ensures { result ≡ carried w }
 {
-    !(w / 0x400000 % 2 == 1) & (w / 0x100 % 0x1000 <= 4)
+    !bank::bit(22, w) & (w / 0x100 % 0x1000 <= 4)
 }
 
 // Whether a burst can run each of the first `n` commands.
@@ -60,7 +60,7 @@ pub fn reads_in(commands: &[u32; 16], n: usize) -> usize
 pub fn is_bursting(c: Control) -> bool
     ensures { result ≡ bursting c }
 {
-    !(c.burst == 0)
+    c.burst != 0
 }
 
 // Whether the transfer of the command `w` is open.
@@ -68,13 +68,11 @@ pub fn is_open(w: u32, p: Phase) -> bool
     ensures { result ≡ opens w p }
 {
     let t = phases::transfer_of(p);
-    let k = t.kind;
-    let header = bank::select(t.header, 1, 0);
-    phases::is_private(k)
-        & (header == w / 0x200000 % 2)
+    phases::is_private(t.kind)
+        & (t.header == bank::bit(21, w))
         & (t.length.0 == w / 0x100 % 0x1000)
-        & bank::choose(
-            bank::low_bit(w),
+        & bank::select(
+            bank::bit(0, w),
             phases::is_reading(p),
             phases::is_writing(p),
         )
@@ -84,7 +82,5 @@ pub fn is_open(w: u32, p: Phase) -> bool
 pub fn gathered_bytes(p: Phase) -> Bytes
     ensures { result.0 ≡ gathered_bytes p }
 {
-    let t = phases::transfer_of(p);
-    let n = bank::select(phases::is_reading(p), t.moved.0, 0);
-    Bytes(n)
+    bank::select(phases::is_reading(p), phases::transfer_of(p).moved, Bytes(0))
 }

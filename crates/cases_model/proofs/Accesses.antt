@@ -14,7 +14,10 @@ use Rattle.registers.specs.declared.Register.TheVariants.{Version, Id, Scratch, 
 use Rattle.registers.specs.Map.{register_at}
 use Rattle.model.specs.declared.Call.{Call}
 use Rattle.model.specs.declared.Call.TheVariants.{Read, Write, Start, Send, Receive, Finish, Interrupt, Request, Take, Trigger}
-use Rattle.model.specs.View.{Queue, Cmd, Cmdr, Sdo, Sdi, Ibi, of, empty}
+use Rattle.model.specs.View.{empty}
+use Rattle.queues.specs.declared.Queue.{Queue}
+use Rattle.queues.specs.declared.Queue.TheVariants.{Cmd, Cmdr, Sdo, Sdi, Ibi}
+use Rattle.queues.specs.Each.{of}
 use Rattle.model.specs.Decision.{Decision, does, first, effect}
 use Rattle.model.specs.Registers.{Cell, scratch, mask, ops, ibi_config, dev_char, watermark, offload_cmd, offload_sdo, Row, absent, shows, holds, pushes, takes, enables, acknowledges, row, taken_first, shown_again, shown, enable, read, write}
 use Rattle.model.specs.Bursts.{decide}
@@ -84,7 +87,7 @@ module _ (l : Controller) (o : List ℕ) where
   shows_same Ops = tt
   shows_same IbiConfig = tt
   shows_same DevChar = tt
-  shows_same (Watermark i) = tt
+  shows_same (Watermark q) = tt
   shows_same (OffloadCmd i) = tt
   shows_same (OffloadSdo i) = tt
   shows_same Unmapped = tt

@@ -17,7 +17,8 @@ use Rattle.bank.specs.Bursts.{bursting}
 use Rattle.bank.specs.Bits.{bit}
 use Rattle.bank.proofs.Bools.{or_left}
 use Rattle.registers.specs.Map.{named, entry_at, register_at}
-use Rattle.model.specs.View.{Cmd, Cmdr, Sdo, Sdi, Ibi, of, each}
+use Rattle.queues.specs.declared.Queue.TheVariants.{Cmd, Cmdr, Sdo, Sdi, Ibi}
+use Rattle.queues.specs.Each.{of, each}
 use Rattle.model.specs.Decision.{Decision, Effect, effect}
 use Rattle.model.specs.Commands.{Command, first_word, receipt_word}
 use Rattle.model.specs.Registers.{Row, absent, shows, holds, pushes, takes, enables, acknowledges, row, enable, taken_first, read, write}

@@ -7,13 +7,21 @@ use mathlib.Core.Option.{Option, none, some}
 use lib.Dec.{eqb}
 use borrow.Author.Tests.{eqb-true, eqb-false}
 use Rattle.bank.proofs.Bools.{and-true}
+use Rattle.bank.specs.declared.State.{State}
 use Rattle.model.specs.declared.Call.{Call}
 use Rattle.model.specs.Bursts.{decide}
-use Rattle.model.specs.View.{each, Tables, tables, View}
-use Rattle.model.specs.Decision.{QueueOp, keep, keep_all, Effect, Decision, does, ◌⇒◌∣◌, first, effect, unchanged, ◌with_number◌}
+use Rattle.model.specs.View.{Tables, tables, View}
+use Rattle.queues.specs.Each.{each}
+use Rattle.effect.specs.declared.Op.{Op}
+use Rattle.effect.specs.declared.Op.TheVariants.{Keep}
+use Rattle.queues.specs.declared.Queue.{Queue}
+use Rattle.queues.specs.declared.Queue.TheVariants.{Cmd, Cmdr, Sdo, Sdi, Ibi}
+use Rattle.queues.specs.Each.{of, with, every}
+use Rattle.effect.specs.Ops.{op_of, five_of}
+use Rattle.model.specs.Decision.{QueueOp, keep, keep_all, only, Effect, Decision, does, ◌⇒◌∣◌, first, effect, unchanged, ◌with_number◌}
 use Rattle.model.proofs.Tests.{Passed, passed, refusals}
 use Rattle.effect.specs.Effects.{number, verdict_by, verdict}
-use Rattle.effect.specs.Seen.{Front, Fronts}
+use Rattle.effect.specs.Seen.{Front, Fronts, seen}
 
 none_of : (d : Decision) → refusals d ≡ true → number d ≡ 0 → first d ≡ none
 none_of (does x) r e = refl
@@ -76,24 +84,27 @@ no_tables = tables [] [] [] []
 abbrev pub no_fronts : Fronts
 no_fronts = let n : Front = record { first = 0; second = 0 } in each n n n n n
 
--- ── An operation on one queue where a test holds, and none on any where it does not ───────────────────────────
-module _ (o : QueueOp) where
-  pub cmd_flagged : (b : Bool) → cond b (each o keep keep keep keep) keep_all ≡ each (cond b o keep) keep keep keep keep
-  cmd_flagged true = refl
-  cmd_flagged false = refl
+-- an operation on one queue, and none on the others
+pub on_one : (q : Queue) (o : Op) → five_of (with q o (every Keep)) ≡ only q (op_of o)
+unfolding five_of
+on_one Cmd o = refl
+on_one Cmdr o = refl
+on_one Sdo o = refl
+on_one Sdi o = refl
+on_one Ibi o = refl
 
-  pub cmdr_flagged : (b : Bool) → cond b (each keep o keep keep keep) keep_all ≡ each keep (cond b o keep) keep keep keep
-  cmdr_flagged true = refl
-  cmdr_flagged false = refl
+-- ── What is seen of a queue, by its name ──────────────────────────────────────────────────────────────────────
+module _ (st : State) (t : Tables) (f : Fronts) where
+  pub cap_seen : (q : Queue) → (of q (seen st t f).queues).cap ≡ (of q st.caps).0
+  cap_seen Cmd = refl
+  cap_seen Cmdr = refl
+  cap_seen Sdo = refl
+  cap_seen Sdi = refl
+  cap_seen Ibi = refl
 
-  pub sdo_flagged : (b : Bool) → cond b (each keep keep o keep keep) keep_all ≡ each keep keep (cond b o keep) keep keep
-  sdo_flagged true = refl
-  sdo_flagged false = refl
-
-  pub sdi_flagged : (b : Bool) → cond b (each keep keep keep o keep) keep_all ≡ each keep keep keep (cond b o keep) keep
-  sdi_flagged true = refl
-  sdi_flagged false = refl
-
-  pub ibi_flagged : (b : Bool) → cond b (each keep keep keep keep o) keep_all ≡ each keep keep keep keep (cond b o keep)
-  ibi_flagged true = refl
-  ibi_flagged false = refl
+  pub level_seen : (q : Queue) → (of q (seen st t f).queues).level ≡ (of q st.levels).0
+  level_seen Cmd = refl
+  level_seen Cmdr = refl
+  level_seen Sdo = refl
+  level_seen Sdi = refl
+  level_seen Ibi = refl

@@ -1,29 +1,16 @@
 -- Contracts of decisions: what code gives, as an effect of the model, and what a definition decides, as one effect.
 use Rattle.std.specs.Prelude.{ℕ, cond, set}
 use Rattle.std.proofs.Math.Option.{Option, none, some}
-use Rattle.model.specs.View.{Five, each, Tables, tables, View}
+use Rattle.model.specs.View.{Tables, tables, View}
+use Rattle.queues.specs.declared.Five.{Five}
+use Rattle.queues.specs.Each.{each}
 use Rattle.model.specs.Decision.{QueueOp, keep, clear, take, push, push2, keep_all, Effect, Decision, does, ◌⇒◌∣◌, first, effect, unchanged, ◌with_number◌}
-use Rattle.effect.specs.declared.Op.{Op}
-use Rattle.effect.specs.declared.Op.TheVariants.{Keep, Clear, Take, Push, Push2}
-use Rattle.effect.specs.declared.Ops.{Ops}
 use Rattle.effect.specs.declared.Table.{Table}
 use Rattle.effect.specs.declared.Table.TheVariants.{Same, Flags, Command, Payload, Output}
 use Rattle.effect.specs.declared.Effect as code
+use Rattle.effect.specs.Ops.{ops_of}
 
 -- ── What code gives ───────────────────────────────────────────────────────────────────────────────────────────
-abbrev pub op_of : Op → QueueOp
-op_of Keep = keep
-op_of Clear = clear
-op_of (Take k) = take k
-op_of (Push w) = push w
-op_of (Push2 v w) = push2 v w
-
-unfoldable pub five_of : Ops → Five QueueOp
-five_of o = each (op_of o.cmd) (op_of o.cmdr) (op_of o.sdo) (op_of o.sdi) (op_of o.ibi)
-
-unfoldable pub ops_of : Ops → Five QueueOp
-ops_of o = cond o.any (five_of o) keep_all
-
 unfoldable pub tables_by : Table → Tables → Tables
 tables_by Same t = t
 tables_by (Flags i v) t = tables (set t.flags i v) t.commands t.payloads t.output

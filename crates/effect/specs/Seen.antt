@@ -4,7 +4,9 @@ use Rattle.std.specs.Prelude.{ℕ, get_or}
 use Rattle.ring.specs.declared.Words.{Words}
 use Rattle.bank.specs.declared.State.{State}
 use Rattle.bank.specs.Bits.{bits}
-use Rattle.model.specs.View.{Five, each, of, QueueView, Tables, View}
+use Rattle.model.specs.View.{QueueView, Tables, View}
+use Rattle.queues.specs.declared.Five.{Five}
+use Rattle.queues.specs.Each.{each, of}
 use Rattle.model.specs.Registers.{Row, absent, shows, holds, pushes, takes, enables, acknowledges}
 
 -- the first words of a queue, 0 for a word that is not there

@@ -5,12 +5,15 @@
 
 ghost use Rattle.std.specs.Prelude.{◌≡◌, cond, not};
 ghost use Rattle.number.specs.Names as number;
-ghost use Rattle.model.specs.View.{Tables, each};
-ghost use Rattle.model.specs.Decision.{keep, clear, take, push, keep_all, unchanged, ◌with_number◌};
-ghost use Rattle.effect.specs.Effects.{op_of, ops_of, tables_by, effect_of};
+ghost use Rattle.queues.specs.Each.{each, every};
+ghost use Rattle.model.specs.View.{Tables};
+ghost use Rattle.model.specs.Decision.{keep, clear, take, push, only, unchanged, ◌with_number◌};
+ghost use Rattle.effect.specs.Ops.{op_of, ops_of};
+ghost use Rattle.effect.specs.Effects.{tables_by, effect_of};
 ghost use Rattle.effect.specs.Seen.{Fronts, seen};
 
-use bank::{Answer, Control, Phase, Regs, State};
+use bank::{Answer, State};
+use queues::{Five, Queue};
 
 // What happens to a queue.
 #[derive(Clone, Copy)]
@@ -24,16 +27,8 @@ pub enum Op {
     Push2(u32, u32),
 }
 
-// What happens to the five queues. Where `any` does not hold nothing happens to any of them, and none is looked at.
-#[derive(Clone, Copy)]
-pub struct Ops {
-    pub any: bool,
-    pub cmd: Op,
-    pub cmdr: Op,
-    pub sdo: Op,
-    pub sdi: Op,
-    pub ibi: Op,
-}
+// What happens to the five queues; where there is none nothing happens to any of them, and none is looked at.
+pub type Ops = Option<Five<Op>>;
 
 // What happens to the tables and to the lent output: nothing, or one entry, by its place, gets another value.
 #[derive(Clone, Copy)]
@@ -76,141 +71,40 @@ pub fn while_idle(held: bool, idle: bool, n: u32) -> u32
 
 // ── Operations ─────────────────────────────────────────────────────────────────────────────────────────────────
 
-// No operation on any queue.
-#[tactic(auto, unfolding(crate::specs::Effects::ops_of, crate::specs::Effects::five_of))]
-pub fn none() -> Ops
-    ensures { ops_of result ≡ keep_all }
-{
-    Ops {
-        any: false,
-        cmd: Op::Keep,
-        cmdr: Op::Keep,
-        sdo: Op::Keep,
-        sdi: Op::Keep,
-        ibi: Op::Keep,
-    }
-}
-
 // All queues cleared, by a reset (`enable.reset`).
-#[tactic(auto, unfolding(crate::specs::Effects::ops_of, crate::specs::Effects::five_of))]
+#[tactic(auto, unfolding(crate::specs::Ops::five_of))]
 pub fn clear_all() -> Ops
-    ensures { ops_of result ≡ each clear clear clear clear clear }
+    ensures { ops_of result ≡ every clear }
 {
-    Ops {
-        any: true,
-        cmd: Op::Clear,
-        cmdr: Op::Clear,
-        sdo: Op::Clear,
-        sdi: Op::Clear,
-        ibi: Op::Clear,
-    }
+    Some(Five::every(Op::Clear))
 }
 
 // One operation on one queue, where `comes` holds; else none.
-#[tactic(auto, using(crate::proofs::Laws::cmd_flagged), unfolding(crate::specs::Effects::ops_of, crate::specs::Effects::five_of))]
-pub fn on_cmd(comes: bool, o: Op) -> Ops
-    ensures { ops_of result ≡ each (cond comes (op_of o) keep) keep keep keep keep }
+pub fn on(q: Queue, comes: bool, o: Op) -> Ops
+    ensures { ops_of result ≡ only q (cond comes (op_of o) keep) }
 {
-    Ops {
-        any: comes,
-        cmd: o,
-        cmdr: Op::Keep,
-        sdo: Op::Keep,
-        sdi: Op::Keep,
-        ibi: Op::Keep,
-    }
+    if comes { Some(Five::every(Op::Keep).with(q, o)) } else { None }
 }
 
-#[tactic(auto, using(crate::proofs::Laws::cmdr_flagged), unfolding(crate::specs::Effects::ops_of, crate::specs::Effects::five_of))]
-pub fn on_cmdr(comes: bool, o: Op) -> Ops
-    ensures { ops_of result ≡ each keep (cond comes (op_of o) keep) keep keep keep }
+fn op_if(comes: bool, o: Op) -> Op
+    ensures { op_of result ≡ cond comes (op_of o) keep }
 {
-    Ops {
-        any: comes,
-        cmd: Op::Keep,
-        cmdr: o,
-        sdo: Op::Keep,
-        sdi: Op::Keep,
-        ibi: Op::Keep,
-    }
-}
-
-#[tactic(auto, using(crate::proofs::Laws::sdo_flagged), unfolding(crate::specs::Effects::ops_of, crate::specs::Effects::five_of))]
-pub fn on_sdo(comes: bool, o: Op) -> Ops
-    ensures { ops_of result ≡ each keep keep (cond comes (op_of o) keep) keep keep }
-{
-    Ops {
-        any: comes,
-        cmd: Op::Keep,
-        cmdr: Op::Keep,
-        sdo: o,
-        sdi: Op::Keep,
-        ibi: Op::Keep,
-    }
-}
-
-#[tactic(auto, using(crate::proofs::Laws::sdi_flagged), unfolding(crate::specs::Effects::ops_of, crate::specs::Effects::five_of))]
-pub fn on_sdi(comes: bool, o: Op) -> Ops
-    ensures { ops_of result ≡ each keep keep keep (cond comes (op_of o) keep) keep }
-{
-    Ops {
-        any: comes,
-        cmd: Op::Keep,
-        cmdr: Op::Keep,
-        sdo: Op::Keep,
-        sdi: o,
-        ibi: Op::Keep,
-    }
-}
-
-#[tactic(auto, using(crate::proofs::Laws::ibi_flagged), unfolding(crate::specs::Effects::ops_of, crate::specs::Effects::five_of))]
-pub fn on_ibi(comes: bool, o: Op) -> Ops
-    ensures { ops_of result ≡ each keep keep keep keep (cond comes (op_of o) keep) }
-{
-    Ops {
-        any: comes,
-        cmd: Op::Keep,
-        cmdr: Op::Keep,
-        sdo: Op::Keep,
-        sdi: Op::Keep,
-        ibi: o,
-    }
-}
-
-fn push_if(comes: bool, w: u32) -> Op
-    ensures { op_of result ≡ cond comes (push w) keep }
-{
-    if comes {
-        return Op::Push(w);
-    }
-    Op::Keep
-}
-
-fn take_if(comes: bool, n: u32) -> Op
-    ensures { op_of result ≡ cond comes (take n) keep }
-{
-    if comes {
-        return Op::Take(n);
-    }
-    Op::Keep
+    if comes { o } else { Op::Keep }
 }
 
 // A receipt to CMDR; where `removes` holds, `n` words out of SDO (`finish.removal`); where `comes` holds, the part word
 // of a read to SDI (`finish.receipt`).
-#[tactic(auto, unfolding(crate::specs::Effects::ops_of, crate::specs::Effects::five_of))]
+#[tactic(auto, unfolding(crate::specs::Ops::five_of))]
 pub fn receipt_and(receipt: u32, removes: bool, n: u32, comes: bool, w: u32) -> Ops
     ensures { ops_of result ≡ each keep (push receipt) (cond removes (take n) keep) (cond comes (push w) keep) keep }
 {
-    let d = take_if(removes, n);
-    let o = push_if(comes, w);
-    Ops {
-        any: true,
+    Some(Five {
         cmd: Op::Keep,
         cmdr: Op::Push(receipt),
-        sdo: d,
-        sdi: o,
+        sdo: op_if(removes, Op::Take(n)),
+        sdi: op_if(comes, Op::Push(w)),
         ibi: Op::Keep,
-    }
+    })
 }
 
 // One entry of a table, where `comes` holds; else none.
@@ -218,56 +112,34 @@ pub fn receipt_and(receipt: u32, removes: bool, n: u32, comes: bool, w: u32) -> 
 pub fn table_if(comes: bool, t: Table) -> Table
     ensures { (x : Tables) → tables_by result x ≡ cond comes (tables_by t x) x }
 {
-    if comes {
-        return t;
-    }
-    Table::Same
+    if comes { t } else { Table::Same }
 }
 
 // ── Effects ────────────────────────────────────────────────────────────────────────────────────────────────────
 
-// An effect, its state put together field by field: see `bank::state_with`.
-pub fn done_with(
-    st: State,
-    value: u32,
-    number: u32,
-    g: Regs,
-    c: Control,
-    p: Phase,
-    o: Ops,
-    t: Table,
-) -> Effect
-    ensures { (x : Tables) → effect_of result x ≡ record { value = value; number = number; regs = g; control = c; phase = p; tables = tables_by t x; ops = ops_of o } }
+// An effect, its state put together field by field: see `Five::by_field`.
+pub fn done_with(st: State, value: u32, number: u32, ops: Ops, table: Table) -> Effect
+    ensures { (x : Tables) → effect_of result x ≡ record { value = value; number = number; regs = st.regs; control = st.control; phase = st.phase; tables = tables_by table x; ops = ops_of ops } }
 {
-    let s = bank::state_with(st.caps, st.levels, g, c, p);
-    let a = Answer {
-        value: value,
-        number: number,
-    };
     Effect {
-        state: s,
-        answer: a,
-        ops: o,
-        table: t,
+        state: st.by_field(),
+        answer: Answer { value, number },
+        ops,
+        table,
     }
 }
 
 // An effect that leaves the tables.
 #[tactic(auto, unfolding(crate::specs::Effects::tables_by))]
-pub fn done(st: State, value: u32, number: u32, g: Regs, c: Control, p: Phase, o: Ops) -> Effect
-    ensures { (x : Tables) → effect_of result x ≡ record { value = value; number = number; regs = g; control = c; phase = p; tables = x; ops = ops_of o } }
+pub fn done(st: State, value: u32, number: u32, ops: Ops) -> Effect
+    ensures { (x : Tables) → effect_of result x ≡ record { value = value; number = number; regs = st.regs; control = st.control; phase = st.phase; tables = x; ops = ops_of ops } }
 {
-    let t = Table::Same;
-    done_with(st, value, number, g, c, p, o, t)
+    done_with(st, value, number, ops, Table::Same)
 }
 
 // A refusal, which changes nothing (`answer.refusal`).
 pub fn refuse(st: State, n: u32) -> Effect
     ensures { (t : Tables) (f : Fronts) → effect_of result t ≡ (unchanged (seen st t f) with_number n) }
 {
-    let g = st.regs;
-    let c = st.control;
-    let p = st.phase;
-    let o = none();
-    done(st, 0, n, g, c, p, o)
+    done(st, 0, n, None)
 }

@@ -3,7 +3,7 @@
 #![tactic(auto)]
 
 ghost use Rattle.std.specs.Prelude.{◌≡◌};
-ghost use Rattle.bank.specs.declared.Counts.{Counts};
+ghost use Rattle.bank.specs.Fives.{Counts};
 ghost use Rattle.bank.specs.Queues.{queues_of};
 ghost use Rattle.bank.specs.Formed.{queues_clear, control_clear, reset_ok};
 

@@ -5,7 +5,7 @@ use mathlib.Core.Bool.{true}
 use mathlib.Core.List.{List, [], ◌∷◌}
 use lib.Dec.{leb}
 use Rattle.bank.specs.declared.Bank.{Bank}
-use Rattle.bank.specs.declared.Sizes.{Sizes}
+use Rattle.bank.specs.Fives.{Sizes}
 use Rattle.bank.specs.SetUp.{sizes_ok, bank_of, set_up}
 use Rattle.bank.specs.Formed.{well_formed}
 use Rattle.bank.proofs.Bools.{and-true}

@@ -5,7 +5,7 @@ use mathlib.Core.Bool.{true}
 use mathlib.Core.List.{List, [], ◌∷◌}
 use mathlib.Core.Option.{none, some}
 use Rattle.bank.specs.declared.Bank.{Bank}
-use Rattle.bank.specs.declared.Sizes.{Sizes}
+use Rattle.bank.specs.Fives.{Sizes}
 use Rattle.bank.specs.SetUp.{set_up}
 use Rattle.bank.specs.Formed.{well_formed}
 use Rattle.bank.specs.declared.Answer.{Answer}

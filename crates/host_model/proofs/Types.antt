@@ -14,7 +14,9 @@ use Rattle.bank.specs.Bursts.{span, bursting}
 use Rattle.registers.specs.Map.{register_at}
 use Rattle.model.specs.declared.Call.{Call}
 use Rattle.model.specs.declared.Call.TheVariants.{Read, Write, Start, Send, Receive, Finish, Interrupt, Request, Take, Trigger}
-use Rattle.model.specs.View.{Queue, Cmd, Cmdr, Sdo, Sdi, Ibi, Tables, View}
+use Rattle.model.specs.View.{Tables, View}
+use Rattle.queues.specs.declared.Queue.{Queue}
+use Rattle.queues.specs.declared.Queue.TheVariants.{Cmd, Cmdr, Sdo, Sdi, Ibi}
 use Rattle.model.specs.Decision.{Effect, Decision, effect}
 use Rattle.model.specs.Registers.{Cell, scratch, mask, ops, ibi_config, dev_char, watermark, offload_cmd, offload_sdo, Row, absent, shows, holds, pushes, takes, enables, acknowledges, row, stored_regs, stored_tables, clears, enable, read, write}
 use Rattle.model.specs.Calls.{start, send, receive, finish, interrupt, request, take_address}

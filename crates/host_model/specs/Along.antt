@@ -1,7 +1,7 @@
 -- What the calls of a host promise along a list: those of the model, so demand 3 holds of them.
 use Rattle.std.specs.Prelude.{ℕ, ◌≡◌, true, List, [], ◌∷◌, Some}
 use Rattle.bank.specs.declared.Answer.{Answer}
-use Rattle.bank.specs.declared.Sizes.{Sizes}
+use Rattle.bank.specs.Fives.{Sizes}
 use Rattle.bank.specs.SetUp.{set_up}
 use Rattle.bank.specs.Formed.{well_formed}
 use Rattle.model.specs.Engine.{Lent, answers, final}

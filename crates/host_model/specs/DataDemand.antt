@@ -3,7 +3,7 @@
 use Rattle.std.specs.Prelude.{ℕ, ◌≡◌, List, [], ◌∷◌, Some, None}
 use Rattle.std.proofs.Math.Option.{Option, none, some}
 use Rattle.bank.specs.declared.Answer.{Answer}
-use Rattle.bank.specs.declared.Sizes.{Sizes}
+use Rattle.bank.specs.Fives.{Sizes}
 use Rattle.model.specs.declared.Call.{Call}
 use Rattle.model.specs.Rings.{Controller}
 use Rattle.data_model.specs.Ledger.{data_event, Ledger, note}

@@ -2,7 +2,7 @@
 use Rattle.std.specs.Prelude.{ℕ, ◌≡◌, List, [], ◌∷◌, Some, None}
 use Rattle.std.proofs.Math.Option.{Option, none, some}
 use Rattle.bank.specs.declared.Answer.{Answer}
-use Rattle.bank.specs.declared.Sizes.{Sizes}
+use Rattle.bank.specs.Fives.{Sizes}
 use Rattle.model.specs.Demand.{Event, other, event, Tally, follow}
 use Rattle.answer.specs.Given.{controller}
 use Rattle.letters.specs.Named.{Parsed}

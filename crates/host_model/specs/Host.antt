@@ -3,7 +3,7 @@ use Rattle.std.specs.Prelude.{ℕ, ◌+◌, ◌*◌, ◌%◌, ◌^◌, Bool, con
 use Rattle.number.specs.Names as number
 use Rattle.bank.specs.declared.Answer.{Answer}
 use Rattle.bank.specs.declared.Bank.{Bank}
-use Rattle.bank.specs.declared.Sizes.{Sizes}
+use Rattle.bank.specs.Fives.{Sizes}
 use Rattle.bank.specs.SetUp.{refused_set_up, set_up}
 use Rattle.model.specs.declared.Call.TheVariants.{Trigger}
 use Rattle.model.specs.Engine.{Step, step}

@@ -8,7 +8,7 @@ use lib.ListN.{length}
 use borrow.Author.Tests.{eqb-true}
 use Rattle.bank.specs.declared.Bank.{Bank}
 use Rattle.bank.specs.declared.State.{State}
-use Rattle.bank.specs.declared.Heads.{Heads}
+use Rattle.bank.specs.Fives.{Heads}
 use Rattle.bank.proofs.Bools.{and-true}
 use Rattle.image_model.specs.Image.{size, image_of, state_in, heads_in, Kept, kept, kept_of, bank_in, sized, is_kept}
 use Rattle.host_model.specs.Host.{Hosted, packed_of, refusal}

@@ -1,6 +1,6 @@
 -- Contracts of a host's calls: what is lent to a call, as one record, when the call begins and when it ends.
 use Rattle.std.specs.Prelude.{ℕ, List}
-use Rattle.bank.specs.declared.Sizes.{Sizes}
+use Rattle.bank.specs.Fives.{Sizes}
 use Rattle.answer.specs.Memory.{Param}
 use Rattle.letters.specs.Named.{Parsed}
 use Rattle.image_model.specs.Image.{Kept, kept}

@@ -11,7 +11,7 @@ use Rattle.bank.specs.declared.Transfer.{Transfer}
 use Rattle.bank.specs.declared.Phase.{Phase}
 use Rattle.bank.specs.declared.Phase.TheVariants.{Idle, Writing, Reading, Unrequested, Requested, Answered}
 use Rattle.bank.specs.declared.State.{State}
-use Rattle.bank.specs.declared.Heads.{Heads}
+use Rattle.bank.specs.Fives.{Heads}
 use Rattle.bank.specs.declared.Bank.{Bank}
 use Rattle.bank.specs.Bits.{word_if}
 use Rattle.bank.specs.Phases.{stage, transfer}

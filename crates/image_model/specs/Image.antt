@@ -3,8 +3,8 @@
 use Rattle.std.specs.Prelude.{ℕ, ◌+◌, ◌%◌, Bool, true, false, cond, ◌&&◌, List, [], ◌∷◌, ◌++◌, eqb, length, get_or}
 use Rattle.ring.specs.declared.Words.{Words}
 use Rattle.ring.specs.Units.{bytes, words}
-use Rattle.bank.specs.declared.Counts.{Counts}
-use Rattle.bank.specs.declared.Heads.{Heads}
+use Rattle.bank.specs.Fives.{Counts}
+use Rattle.bank.specs.Fives.{Heads}
 use Rattle.bank.specs.declared.Regs.{Regs}
 use Rattle.bank.specs.declared.Latest.{Latest}
 use Rattle.bank.specs.declared.Control.{Control}

@@ -19,7 +19,10 @@ use Rattle.bank.proofs.Laws.{formed_of}
 use Rattle.registers.specs.Map.{register_at}
 use Rattle.model.specs.declared.Call.{Call}
 use Rattle.model.specs.declared.Call.TheVariants.{Read, Write, Start, Send, Receive, Finish, Interrupt, Request, Take, Trigger}
-use Rattle.model.specs.View.{Queue, Cmd, Cmdr, Sdo, Sdi, Ibi, of, empty, View}
+use Rattle.model.specs.View.{empty, View}
+use Rattle.queues.specs.declared.Queue.{Queue}
+use Rattle.queues.specs.declared.Queue.TheVariants.{Cmd, Cmdr, Sdo, Sdi, Ibi}
+use Rattle.queues.specs.Each.{of}
 use Rattle.model.specs.Decision.{Decision, does, first, effect}
 use Rattle.model.specs.Registers.{Cell, Row, absent, shows, holds, pushes, takes, enables, acknowledges, row, enable, taken_first, shown_again, read, write}
 use Rattle.model.specs.Calls.{busy, start, send, receive, finish, interrupt, request, take_address}

@@ -12,7 +12,7 @@ use borrow.Author.Tests.{eq-eqb, eqb-true, eqb-false, not-true, not-false}
 use Rattle.ring.specs.declared.Ring.{Ring}
 use Rattle.ring.specs.Ring.{entries}
 use Rattle.ring.proofs.Laws.{entries_length, entries_take}
-use Rattle.bank.specs.declared.Counts.{Counts}
+use Rattle.bank.specs.Fives.{Counts}
 use Rattle.bank.specs.declared.Control.{Control}
 use Rattle.bank.specs.declared.Phase.{Phase}
 use Rattle.bank.specs.Queues.{Queues, queues_in}
@@ -25,7 +25,10 @@ use Rattle.registers.specs.Map.{named, entry_at, register_at}
 use Rattle.model.specs.declared.Call.{Call}
 use Rattle.model.specs.declared.Call.TheVariants.{Read, Write, Finish}
 use Rattle.bank.specs.Bits.{bit, bits}
-use Rattle.model.specs.View.{Queue, Cmd, Cmdr, Sdo, Sdi, Ibi, of, View}
+use Rattle.model.specs.View.{View}
+use Rattle.queues.specs.declared.Queue.{Queue}
+use Rattle.queues.specs.declared.Queue.TheVariants.{Cmd, Cmdr, Sdo, Sdi, Ibi}
+use Rattle.queues.specs.Each.{of}
 use Rattle.model.specs.Decision.{QueueOp, take, only, Effect, Decision, does, ◌⇒◌∣◌, first, effect}
 use Rattle.model.specs.Commands.{receipt_word}
 use Rattle.model.specs.Registers.{Cell, scratch, mask, ops, ibi_config, dev_char, watermark, offload_cmd, offload_sdo, Row, absent, shows, holds, pushes, takes, enables, acknowledges, row, shown, clears, released, remembered, taken_first, count_of, counts_with, burst_holds, above_capacity, enable, read, write}

@@ -12,7 +12,7 @@ use Rattle.ring.proofs.Laws.{entries_length}
 use Rattle.bank.specs.declared.Latest.{Latest}
 use Rattle.bank.specs.declared.Control.{Control}
 use Rattle.bank.specs.declared.Answer.{Answer}
-use Rattle.bank.specs.declared.Sizes.{Sizes}
+use Rattle.bank.specs.Fives.{Sizes}
 use Rattle.bank.specs.SetUp.{sizes_ok, cleared, bank_of, refused_set_up, set_up, total}
 use Rattle.bank.specs.Queues.{queues_in}
 use Rattle.bank.specs.Bursts.{bursting}
@@ -20,7 +20,10 @@ use Rattle.bank.specs.Bits.{bit}
 use Rattle.registers.specs.Map.{named, entry_at, register_at}
 use Rattle.model.specs.declared.Call.{Call}
 use Rattle.model.specs.declared.Call.TheVariants.{Read, Write, Start, Send, Receive, Finish, Interrupt, Request, Take, Trigger}
-use Rattle.model.specs.View.{Queue, Cmd, Cmdr, Sdo, Sdi, Ibi, of, empty, last, View}
+use Rattle.model.specs.View.{empty, last, View}
+use Rattle.queues.specs.declared.Queue.{Queue}
+use Rattle.queues.specs.declared.Queue.TheVariants.{Cmd, Cmdr, Sdo, Sdi, Ibi}
+use Rattle.queues.specs.Each.{of}
 use Rattle.model.specs.Decision.{Decision, first, effect}
 use Rattle.model.specs.Registers.{Row, absent, shows, holds, pushes, takes, enables, acknowledges, row, clears, latest_of, remembered, enable, read, write}
 use Rattle.model.specs.Calls.{start, send, receive, finish, interrupt, request, take_address}

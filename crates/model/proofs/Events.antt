@@ -16,7 +16,7 @@ use Rattle.bank.specs.Phases.{idle, writing, reading, assigning, requested, tran
 use Rattle.bank.proofs.Bools.{or_left}
 use Rattle.registers.specs.Map.{named, entry_at, register_at}
 use Rattle.bank.specs.Bits.{bit}
-use Rattle.model.specs.View.{Cmd, Cmdr, Sdo, Sdi, Ibi}
+use Rattle.queues.specs.declared.Queue.TheVariants.{Cmd, Cmdr, Sdo, Sdi, Ibi}
 use Rattle.model.specs.Decision.{Effect, Decision, first, effect}
 use Rattle.model.specs.Commands.{Command, first_word, length_of, receipt_word}
 use Rattle.model.specs.Registers.{Row, absent, shows, holds, pushes, takes, enables, acknowledges, row, enable, taken_first, read, write}

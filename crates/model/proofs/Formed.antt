@@ -17,7 +17,7 @@ use Rattle.bank.specs.declared.Phase.TheVariants.{Idle, Writing, Reading, Unrequ
 use Rattle.bank.specs.Phases.{idle, assigning, transfer, unattached, limit, part_bytes}
 use Rattle.bank.specs.Bursts.{bursting}
 use Rattle.bank.specs.SetUp.{size_ok, marks_ok}
-use Rattle.bank.specs.declared.Counts.{Counts}
+use Rattle.bank.specs.Fives.{Counts}
 use Rattle.bank.specs.Formed.{ring_ok, queues_ok, regs_ok, flags_ok, phase_ok, ring_clear, queues_clear, latest_clear, control_clear, reset_ok}
 use Rattle.bank.proofs.Bools.{and-true, true_and, three, five, all_three, all_five}
 use Rattle.bank.proofs.Laws.{ring_valid, rings_of, rings_are}
@@ -25,7 +25,11 @@ use Rattle.registers.specs.Map.{register_at}
 use Rattle.model.specs.declared.Call.{Call}
 use Rattle.model.specs.declared.Call.TheVariants.{Read, Write, Start, Send, Receive, Finish, Interrupt, Request, Take, Trigger}
 use Rattle.bank.specs.Bits.{bit, bits}
-use Rattle.model.specs.View.{Queue, Cmd, Cmdr, Sdo, Sdi, Ibi, Five, of, Tables, View}
+use Rattle.model.specs.View.{Tables, View}
+use Rattle.queues.specs.declared.Queue.{Queue}
+use Rattle.queues.specs.declared.Queue.TheVariants.{Cmd, Cmdr, Sdo, Sdi, Ibi}
+use Rattle.queues.specs.declared.Five.{Five}
+use Rattle.queues.specs.Each.{of}
 use Rattle.model.specs.Decision.{QueueOp, Decision, effect}
 use Rattle.model.specs.Commands.{Command, first_word, is_entdaa, is_read, length_of, opened, begun}
 use Rattle.model.specs.Registers.{Cell, scratch, mask, ops, ibi_config, dev_char, watermark, offload_cmd, offload_sdo, Row, absent, shows, holds, pushes, takes, enables, acknowledges, row, count_of, counts_with, stored_regs, stored_tables, above_capacity, pending, clears, enable, read, write}

@@ -12,7 +12,7 @@ use borrow.Author.Tests.{ne_eqb, eqb-true, eqb-false}
 use Rattle.ring.specs.Ring.{entries}
 use Rattle.bank.specs.declared.Bank.{Bank}
 use Rattle.bank.specs.declared.Regs.{Regs}
-use Rattle.bank.specs.declared.Sizes.{Sizes}
+use Rattle.bank.specs.Fives.{Sizes}
 use Rattle.bank.specs.Queues.{queues_in}
 use Rattle.bank.specs.SetUp.{set_up, total}
 use Rattle.bank.specs.Formed.{well_formed}
@@ -25,7 +25,10 @@ use Rattle.model.specs.declared.Call.{Call}
 use Rattle.model.specs.declared.Call.TheVariants.{Read, Write, Start, Send, Receive, Finish, Interrupt, Request, Take, Trigger}
 use Rattle.bank.specs.declared.Answer.{Answer}
 use Rattle.bank.specs.Bits.{bit}
-use Rattle.model.specs.View.{Queue, Cmd, Cmdr, Sdo, Sdi, Ibi, of, Tables, View}
+use Rattle.model.specs.View.{Tables, View}
+use Rattle.queues.specs.declared.Queue.{Queue}
+use Rattle.queues.specs.declared.Queue.TheVariants.{Cmd, Cmdr, Sdo, Sdi, Ibi}
+use Rattle.queues.specs.Each.{of}
 use Rattle.model.specs.Decision.{QueueOp, keep, keep_all, only, Decision, first, effect}
 use Rattle.model.specs.Registers.{Cell, scratch, mask, ops, ibi_config, dev_char, watermark, offload_cmd, offload_sdo, Row, absent, shows, holds, pushes, takes, enables, acknowledges, row, stored_tables, enable, read, write}
 use Rattle.model.specs.Calls.{start, send, receive, finish, interrupt, request, take_address}

@@ -9,7 +9,8 @@ use Rattle.registers.specs.Map.{register_at}
 use Rattle.model.specs.declared.Call.{Call}
 use Rattle.model.specs.declared.Call.TheVariants.{Read, Write, Start, Send, Receive, Finish, Interrupt, Request, Take, Trigger}
 use Rattle.bank.specs.Bits.{bit}
-use Rattle.model.specs.View.{of, empty, View}
+use Rattle.model.specs.View.{empty, View}
+use Rattle.queues.specs.Each.{of}
 use Rattle.model.specs.Decision.{Effect, Decision, does, effect}
 use Rattle.model.specs.Registers.{Row, absent, shows, holds, pushes, takes, enables, acknowledges, row, enable, taken_first, shown_again, read, write}
 use Rattle.model.specs.Calls.{start, send, receive, finish, interrupt, request, take_address}

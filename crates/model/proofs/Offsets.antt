@@ -10,7 +10,8 @@ use Rattle.registers.specs.declared.Register.{Register}
 use Rattle.registers.specs.declared.Register.TheVariants.{OffloadCmd, OffloadSdo, Unmapped}
 use Rattle.registers.specs.Map.{Entry, named, in_memory, offload, entry_at, register_at}
 use Rattle.bank.proofs.Bools.{and-true}
-use Rattle.model.specs.View.{Queue, of, each}
+use Rattle.queues.specs.declared.Queue.{Queue}
+use Rattle.queues.specs.Each.{of, each}
 use Rattle.model.specs.Registers.{Row, absent, shows, holds, pushes, takes, enables, acknowledges, row}
 
 -- a row whose writes, or reads, leave CMD, CMDR, the transfer and the receipts' sync alone

@@ -17,7 +17,11 @@ use Rattle.bank.specs.Queues.{queues_in}
 use Rattle.bank.specs.Ready.{Ready}
 use Rattle.bank.proofs.Laws.{formed_of, ready}
 use Rattle.model.specs.declared.Call.TheVariants.{Finish}
-use Rattle.model.specs.View.{Queue, Cmd, Cmdr, Sdo, Sdi, Ibi, Five, each, of, View}
+use Rattle.model.specs.View.{View}
+use Rattle.queues.specs.declared.Queue.{Queue}
+use Rattle.queues.specs.declared.Queue.TheVariants.{Cmd, Cmdr, Sdo, Sdi, Ibi}
+use Rattle.queues.specs.declared.Five.{Five}
+use Rattle.queues.specs.Each.{each, of}
 use Rattle.model.specs.Fits.{AllFit}
 use Rattle.model.specs.Decision.{QueueOp, keep, take, push, Effect, Decision, effect, unchanged, ◌with_value◌, ◌with_control◌, ◌with_phase◌, ◌with_queues◌}
 use Rattle.model.specs.Commands.{receipt_word}

@@ -12,7 +12,10 @@ use Rattle.ring.proofs.Laws.{place_below, entries_length, entries_push, entries_
 use Rattle.bank.specs.Queues.{Queues, queues_in, caps_of}
 use Rattle.bank.specs.SetUp.{total}
 use Rattle.bank.specs.Ready.{Ready}
-use Rattle.model.specs.View.{Queue, Cmd, Cmdr, Sdo, Sdi, Ibi, Five, each, of}
+use Rattle.queues.specs.declared.Queue.{Queue}
+use Rattle.queues.specs.declared.Queue.TheVariants.{Cmd, Cmdr, Sdo, Sdi, Ibi}
+use Rattle.queues.specs.declared.Five.{Five}
+use Rattle.queues.specs.Each.{each, of}
 use Rattle.model.specs.Decision.{QueueOp, keep, clear, take, push, push2, Effect}
 use Rattle.model.specs.Rings.{Controller, Area, area, areas, words_in, view_area, view_queues, view_rings, on_ring, on_store, on_rings, on_stores, settle_rings}
 use Rattle.model.specs.Lists.{ListQueue, Lists, view_list, view_lists, on_words, on_list, settle_lists}

@@ -12,7 +12,11 @@ use Rattle.registers.specs.Map.{register_at}
 use Rattle.model.specs.declared.Call.{Call}
 use Rattle.model.specs.declared.Call.TheVariants.{Read, Write, Start, Send, Receive, Finish, Interrupt, Request, Take, Trigger}
 use Rattle.bank.specs.Bits.{bit}
-use Rattle.model.specs.View.{Queue, Cmd, Cmdr, Sdo, Sdi, Ibi, Five, of, QueueView, room, empty, full, View}
+use Rattle.model.specs.View.{QueueView, room, empty, full, View}
+use Rattle.queues.specs.declared.Queue.{Queue}
+use Rattle.queues.specs.declared.Queue.TheVariants.{Cmd, Cmdr, Sdo, Sdi, Ibi}
+use Rattle.queues.specs.declared.Five.{Five}
+use Rattle.queues.specs.Each.{of}
 use Rattle.model.specs.Fits.{FitsIn, AllFit}
 use Rattle.model.specs.Decision.{QueueOp, keep, clear, take, push, push2, keep_all, only, Decision, effect}
 use Rattle.model.specs.Commands.{two_words}

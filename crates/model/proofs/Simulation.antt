@@ -13,7 +13,8 @@ use Rattle.bank.specs.SetUp.{bank_of, total}
 use Rattle.bank.specs.Formed.{well_formed}
 use Rattle.bank.proofs.Laws.{Formed, formed_is, formed_of, ready, bank_is, fresh_formed}
 use Rattle.model.specs.declared.Call.{Call}
-use Rattle.model.specs.View.{Cmd, Cmdr, Sdo, Sdi, Ibi, View}
+use Rattle.model.specs.View.{View}
+use Rattle.queues.specs.declared.Queue.TheVariants.{Cmd, Cmdr, Sdo, Sdi, Ibi}
 use Rattle.model.specs.Decision.{first, Effect, effect}
 use Rattle.model.specs.Bursts.{decide}
 use Rattle.model.specs.Engine.{Step, outcome, step, Lent, step_lent, final}

@@ -4,7 +4,9 @@ use mathlib.Core.Path.{◌≡◌, refl, sym, subst}
 use mathlib.Core.Bool.{Bool, true, false, cond, not, ◌&&◌, false≢true}
 use mathlib.Core.Option.{none, some, none-ne-some, some-injective}
 use lib.Dec.{eqb}
-use Rattle.model.specs.View.{Queue, of, empty, View}
+use Rattle.model.specs.View.{empty, View}
+use Rattle.queues.specs.declared.Queue.{Queue}
+use Rattle.queues.specs.Each.{of}
 use Rattle.model.specs.Decision.{Decision, does, ◌⇒◌∣◌, first}
 use Rattle.model.specs.Registers.{takes, shown_again, taken_first, read}
 

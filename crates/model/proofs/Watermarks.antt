@@ -4,7 +4,7 @@ use mathlib.Core.Path.{◌≡◌, refl, ◌∙◌, ap, subst}
 use mathlib.Core.Bool.{Bool, true, false, cond, true≢false}
 use lib.Dec.{ltb, eqb}
 use lib.ListN.{length}
-use Rattle.bank.specs.declared.Counts.{Counts}
+use Rattle.bank.specs.Fives.{Counts}
 use Rattle.bank.specs.declared.Regs.{Regs}
 use Rattle.bank.specs.Bits.{bit}
 use Rattle.bank.specs.Bursts.{bursting}
@@ -13,7 +13,9 @@ use Rattle.bank.specs.SetUp.{total}
 use Rattle.registers.specs.Map.{named, entry_at, register_at}
 use Rattle.model.specs.declared.Call.{Call}
 use Rattle.model.specs.declared.Call.TheVariants.{Read, Write, Start, Send, Receive, Finish, Interrupt, Request, Take, Trigger}
-use Rattle.model.specs.View.{Queue, Cmd, Cmdr, Sdo, Sdi, Ibi, View}
+use Rattle.model.specs.View.{View}
+use Rattle.queues.specs.declared.Queue.{Queue}
+use Rattle.queues.specs.declared.Queue.TheVariants.{Cmd, Cmdr, Sdo, Sdi, Ibi}
 use Rattle.model.specs.Decision.{Decision, effect}
 use Rattle.model.specs.Registers.{Cell, scratch, mask, ops, ibi_config, dev_char, watermark, offload_cmd, offload_sdo, Row, absent, shows, holds, pushes, takes, enables, acknowledges, row, sources, count_of, counts_with, stored_regs, enable, write}
 use Rattle.model.specs.Calls.{start, send, receive, finish, interrupt, request, take_address}

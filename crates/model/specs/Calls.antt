@@ -10,7 +10,8 @@ use Rattle.bank.specs.declared.Phase.{Phase}
 use Rattle.bank.specs.declared.Phase.TheVariants.{Idle, Writing, Reading, Requested, Answered}
 use Rattle.bank.specs.Phases.{idle, writing, reading, assigning, requested, unrequested, transfer, private, broadcast, unattached}
 use Rattle.bank.specs.Bits.{bit}
-use Rattle.model.specs.View.{QueueView, room, empty, full, last, each, View}
+use Rattle.model.specs.View.{QueueView, room, empty, full, last, View}
+use Rattle.queues.specs.Each.{each}
 use Rattle.model.specs.Decision.{keep, take, push, push2, unchanged, ◌with_value◌, ◌with_number◌, ◌with_control◌, ◌with_phase◌, ◌with_queues◌, Decision, does, ◌⇒◌∣◌}
 use Rattle.model.specs.Commands.{Command, Single, Ccc, two_words, first_word, kind_of, is_entdaa, address_of, begun, receipt_word, entry_word}
 use Rattle.model.specs.Registers.{device, pending}

@@ -4,7 +4,11 @@ use Rattle.std.proofs.Math.Option.{Option, none, some}
 use Rattle.bank.specs.declared.Regs.{Regs}
 use Rattle.bank.specs.declared.Control.{Control}
 use Rattle.bank.specs.declared.Phase.{Phase}
-use Rattle.model.specs.View.{Queue, Cmd, Cmdr, Sdo, Sdi, Ibi, Five, each, Tables, View}
+use Rattle.model.specs.View.{Tables, View}
+use Rattle.queues.specs.declared.Queue.{Queue}
+use Rattle.queues.specs.declared.Queue.TheVariants.{Cmd, Cmdr, Sdo, Sdi, Ibi}
+use Rattle.queues.specs.declared.Five.{Five}
+use Rattle.queues.specs.Each.{each}
 
 -- ── Effects ───────────────────────────────────────────────────────────────────────────────────────────────────
 -- what an effect does to one queue

@@ -4,7 +4,7 @@ use Rattle.std.specs.Prelude.{ℕ, ◌+◌, ◌*◌, ◌%◌, ◌^◌, ◌<◌, 
 use Rattle.number.specs.Names as number
 use Rattle.bank.specs.Queues.{queues_in}
 use Rattle.bank.specs.declared.Control.{Control}
-use Rattle.bank.specs.declared.Sizes.{Sizes}
+use Rattle.bank.specs.Fives.{Sizes}
 use Rattle.bank.specs.Phases.{idle, transfer}
 use Rattle.bank.specs.Bursts.{bursting}
 use Rattle.bank.specs.SetUp.{set_up, total, cleared}
@@ -13,7 +13,10 @@ use Rattle.registers.specs.Map.{register_at}
 use Rattle.model.specs.declared.Call.{Call}
 use Rattle.model.specs.declared.Call.TheVariants.{Read, Write, Finish}
 use Rattle.bank.specs.Bits.{bit, bits, word_if}
-use Rattle.model.specs.View.{View, Queue, Cmdr, Sdo, Ibi, of, full, last}
+use Rattle.model.specs.View.{View, full, last}
+use Rattle.queues.specs.declared.Queue.{Queue}
+use Rattle.queues.specs.declared.Queue.TheVariants.{Cmdr, Sdo, Ibi}
+use Rattle.queues.specs.Each.{of}
 use Rattle.model.specs.Commands.{receipt_word}
 use Rattle.model.specs.Calls.{padded}
 use Rattle.model.specs.Registers.{Cell, scratch, mask, ops, ibi_config, dev_char, watermark, offload_cmd, offload_sdo, Row, absent, shows, holds, pushes, takes, enables, acknowledges, burst_holds, above_capacity, row, remembered_in}

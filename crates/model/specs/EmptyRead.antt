@@ -1,14 +1,14 @@
 -- What an empty queue shows, 02 §5: the law of `take.empty` along every list of calls, and worked sessions.
 use Rattle.std.specs.Prelude.{ℕ, ◌≡◌, Bool, true, false, cond, List, [], ◌∷◌, eqb, length}
 use Rattle.number.specs.Names as number
-use Rattle.bank.specs.declared.Sizes.{Sizes}
+use Rattle.bank.specs.Fives.{Sizes}
 use Rattle.bank.specs.declared.Answer.{Answer}
 use Rattle.bank.specs.SetUp.{total}
 use Rattle.bank.specs.Formed.{well_formed}
 use Rattle.registers.specs.Map.{register_at}
 use Rattle.model.specs.declared.Call.{Call}
 use Rattle.model.specs.declared.Call.TheVariants.{Read, Write, Start, Send, Receive, Finish, Interrupt, Request, Take, Trigger}
-use Rattle.model.specs.View.{Queue}
+use Rattle.queues.specs.declared.Queue.{Queue}
 use Rattle.model.specs.Registers.{takes, row}
 use Rattle.model.specs.Engine.{step, Lent, step_lent, final}
 use Rattle.model.specs.Rings.{Controller, rings}

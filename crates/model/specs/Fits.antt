@@ -1,6 +1,9 @@
 -- When an operation fits a queue: it pushes only where there is room, and takes only what is there. Code that settles an effect asks this.
 use Rattle.std.specs.Prelude.{ℕ, ◌+◌, ◌≤◌}
-use Rattle.model.specs.View.{Queue, Five, of, QueueView}
+use Rattle.model.specs.View.{QueueView}
+use Rattle.queues.specs.declared.Queue.{Queue}
+use Rattle.queues.specs.declared.Five.{Five}
+use Rattle.queues.specs.Each.{of}
 use Rattle.model.specs.Decision.{QueueOp, keep, clear, take, push, push2}
 
 abbrev pub Fits : QueueOp → ℕ → ℕ → Type 0

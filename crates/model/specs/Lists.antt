@@ -4,7 +4,9 @@ use Rattle.std.specs.Prelude.{ℕ, List, [], ◌∷◌, ◌++◌, length, get_or
 use Rattle.bank.specs.declared.Regs.{Regs}
 use Rattle.bank.specs.declared.Control.{Control}
 use Rattle.bank.specs.declared.Phase.{Phase}
-use Rattle.model.specs.View.{Five, each, QueueView, Tables, View}
+use Rattle.model.specs.View.{QueueView, Tables, View}
+use Rattle.queues.specs.declared.Five.{Five}
+use Rattle.queues.specs.Each.{each}
 use Rattle.model.specs.Decision.{QueueOp, keep, clear, take, push, push2, Effect}
 use Rattle.model.specs.Engine.{Engine}
 

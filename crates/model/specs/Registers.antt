@@ -2,7 +2,7 @@
 use Rattle.std.specs.Prelude.{ℕ, ◌+◌, ◌*◌, ◌%◌, ◌^◌, Bool, true, false, cond, not, ◌&&◌, ltb, eqb, get_or, set}
 use Rattle.number.specs.Names as number
 use Rattle.ring.specs.Units.{words}
-use Rattle.bank.specs.declared.Counts.{Counts}
+use Rattle.bank.specs.Fives.{Counts}
 use Rattle.bank.specs.declared.Regs.{Regs}
 use Rattle.bank.specs.declared.Latest.{Latest}
 use Rattle.bank.specs.declared.Control.{Control}
@@ -13,7 +13,10 @@ use Rattle.bank.specs.SetUp.{cleared}
 use Rattle.registers.specs.declared.Register.{Register}
 use Rattle.registers.specs.declared.Register.TheVariants.{Version, Id, Scratch, Enable, IrqMask, IrqPending, IrqSource, CmdRoom, CmdrLevel, SdoRoom, SdiLevel, IbiLevel, CmdFifo, CmdrFifo, SdoFifo, SdiFifo, IbiFifo, FifoStatus, Ops, IbiConfig, DevChar, Watermark, OffloadCmd, OffloadSdo, Unmapped}
 use Rattle.bank.specs.Bits.{bit, bits, word_if}
-use Rattle.model.specs.View.{Queue, Cmd, Cmdr, Sdo, Sdi, Ibi, each, of, room, empty, full, last, Tables, View}
+use Rattle.model.specs.View.{room, empty, full, last, Tables, View}
+use Rattle.queues.specs.declared.Queue.{Queue}
+use Rattle.queues.specs.declared.Queue.TheVariants.{Cmd, Cmdr, Sdo, Sdi, Ibi}
+use Rattle.queues.specs.Each.{each, of, with}
 use Rattle.model.specs.Decision.{clear, take, push, only, Effect, unchanged, ◌with_value◌, ◌with_number◌, ◌with_regs◌, ◌with_control◌, ◌with_phase◌, ◌with_tables◌, ◌with_queues◌, Decision, does, ◌⇒◌∣◌}
 
 -- the registers that keep what is written
@@ -55,10 +58,6 @@ sources m s =
 abbrev pub status : View → ℕ
 status s = word_if (empty s.queues.cmdr) 1 + word_if (empty s.queues.ibi) 2 + word_if (empty s.queues.sdi) 4
 
--- the queue of a watermark register, in the order of `store.order`
-abbrev pub queue_at : ℕ → Queue
-queue_at i = cond (eqb i 0) Cmd (cond (eqb i 1) Cmdr (cond (eqb i 2) Sdo (cond (eqb i 3) Sdi Ibi)))
-
 -- the row of each register. Those that show a number: `version.value`, `id.value`, `source.read`, `room.read`, `level.read`, `status.read`.
 abbrev pub row : Register → Row
 row Version = shows (λ s. 0x00000100)
@@ -82,7 +81,7 @@ row FifoStatus = shows status
 row Ops = holds ops
 row IbiConfig = holds ibi_config
 row DevChar = holds dev_char
-row (Watermark i) = holds (watermark (queue_at i))
+row (Watermark q) = holds (watermark q)
 row (OffloadCmd i) = holds (offload_cmd i)
 row (OffloadSdo i) = holds (offload_sdo i)
 row Unmapped = absent
@@ -90,19 +89,11 @@ row Unmapped = absent
 -- ── Watermarks ────────────────────────────────────────────────────────────────────────────────────────────────
 -- one of five numbers, by its queue
 abbrev pub count_of : Queue → Counts → ℕ
-count_of Cmd m = m.cmd.0
-count_of Cmdr m = m.cmdr.0
-count_of Sdo m = m.sdo.0
-count_of Sdi m = m.sdi.0
-count_of Ibi m = m.ibi.0
+count_of q m = (of q m).0
 
 -- five numbers with x for that of a queue
 abbrev pub counts_with : Queue → ℕ → Counts → Counts
-counts_with Cmd x m = record { cmd = words x; cmdr = m.cmdr; sdo = m.sdo; sdi = m.sdi; ibi = m.ibi }
-counts_with Cmdr x m = record { cmd = m.cmd; cmdr = words x; sdo = m.sdo; sdi = m.sdi; ibi = m.ibi }
-counts_with Sdo x m = record { cmd = m.cmd; cmdr = m.cmdr; sdo = words x; sdi = m.sdi; ibi = m.ibi }
-counts_with Sdi x m = record { cmd = m.cmd; cmdr = m.cmdr; sdo = m.sdo; sdi = words x; ibi = m.ibi }
-counts_with Ibi x m = record { cmd = m.cmd; cmdr = m.cmdr; sdo = m.sdo; sdi = m.sdi; ibi = words x }
+counts_with q x m = with q (words x) m
 
 -- ── Stored fields ─────────────────────────────────────────────────────────────────────────────────────────────
 -- What a read gives: of OPS bit 7 from the phase (`ops.keeps`), of IBI_CONFIG 0 (`map.write-only`), of DEV_CHAR the selected address and

@@ -11,7 +11,9 @@ use Rattle.bank.specs.Bursts.{bursting}
 use Rattle.bank.specs.Queues.{queues_in}
 use Rattle.model.specs.declared.Call.{Call}
 use Rattle.model.specs.declared.Call.TheVariants.{Read, Write, Start, Send, Finish, Trigger}
-use Rattle.model.specs.View.{Queue, Cmdr, Sdo, of}
+use Rattle.queues.specs.declared.Queue.{Queue}
+use Rattle.queues.specs.declared.Queue.TheVariants.{Cmdr, Sdo}
+use Rattle.queues.specs.Each.{of}
 use Rattle.model.specs.Engine.{step}
 use Rattle.model.specs.Rings.{Controller, areas, rings}
 use Rattle.model.specs.Laws.{same_queue}

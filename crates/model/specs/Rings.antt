@@ -3,12 +3,14 @@ use Rattle.std.specs.Prelude.{ℕ, ◌+◌, not, List, eqb, length, get_or, set}
 use Rattle.number.specs.Names as number
 use Rattle.ring.specs.declared.Ring.{Ring}
 use Rattle.ring.specs.Ring.{place_of, pushed_of, taken_of, cleared_of, entries}
-use Rattle.bank.specs.declared.Counts.{Counts}
+use Rattle.bank.specs.Fives.{Counts}
 use Rattle.bank.specs.declared.Bank.{Bank}
 use Rattle.bank.specs.Queues.{Queues, queues_in, caps_of, levels_of, heads_of}
 use Rattle.bank.specs.SetUp.{total}
 use Rattle.bank.specs.Formed.{well_formed}
-use Rattle.model.specs.View.{Five, each, QueueView, View}
+use Rattle.model.specs.View.{QueueView, View}
+use Rattle.queues.specs.declared.Five.{Five}
+use Rattle.queues.specs.Each.{each}
 use Rattle.model.specs.Decision.{QueueOp, keep, clear, take, push, push2, Effect, Decision, ◌⇒◌∣◌}
 use Rattle.model.specs.Engine.{Engine}
 

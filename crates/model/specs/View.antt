@@ -1,34 +1,11 @@
 -- What a call decides by. It sees nothing else: not where the queues lie, and not their words behind the second. The tests 21 and 22
 -- belong to the engine.
 use Rattle.std.specs.Prelude.{ℕ, ◌-◌, Bool, List, leb, eqb}
+use Rattle.queues.specs.declared.Five.{Five}
 use Rattle.bank.specs.declared.Regs.{Regs}
 use Rattle.bank.specs.declared.Control.{Control}
 use Rattle.bank.specs.declared.Phase.{Phase}
 
--- ── Five of a kind ────────────────────────────────────────────────────────────────────────────────────────────
--- the five queues: commands, receipts, payload to send, payload received, interrupt entries (`queue.kind`)
-pub data Queue : Type 0 where
-  Cmd Cmdr Sdo Sdi Ibi : Queue
-
--- one for each queue, in the order of `store.order`
-pub record Five (A : Type 0) : Type 0 where
-  pub cmd : A
-  pub cmdr : A
-  pub sdo : A
-  pub sdi : A
-  pub ibi : A
-
-abbrev pub each : {A : Type 0} → A → A → A → A → A → Five A
-each a b c d e = record { cmd = a; cmdr = b; sdo = c; sdi = d; ibi = e }
-
-abbrev pub of : {A : Type 0} → Queue → Five A → A
-of Cmd f = f.cmd
-of Cmdr f = f.cmdr
-of Sdo f = f.sdo
-of Sdi f = f.sdi
-of Ibi f = f.ibi
-
--- ── The view ──────────────────────────────────────────────────────────────────────────────────────────────────
 -- a queue: its capacity, its level and its first two words; a word that is not there is 0
 pub record QueueView : Type 0 where
   pub cap : ℕ

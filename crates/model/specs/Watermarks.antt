@@ -6,7 +6,8 @@ use Rattle.bank.specs.Formed.{well_formed}
 use Rattle.registers.specs.Map.{register_at}
 use Rattle.model.specs.declared.Call.{Call}
 use Rattle.model.specs.declared.Call.TheVariants.{Read, Write, Start, Send, Receive, Finish, Interrupt, Request, Take, Trigger}
-use Rattle.model.specs.View.{Queue, View}
+use Rattle.model.specs.View.{View}
+use Rattle.queues.specs.declared.Queue.{Queue}
 use Rattle.model.specs.Registers.{Cell, scratch, mask, ops, ibi_config, dev_char, watermark, offload_cmd, offload_sdo, Row, absent, shows, holds, pushes, takes, enables, acknowledges, row, sources, count_of, counts_with}
 use Rattle.model.specs.Engine.{step}
 use Rattle.model.specs.Rings.{Controller, view_rings, rings}

@@ -7,7 +7,7 @@ use mathlib.Core.Option.{Option, none, some, none-ne-some, some-injective}
 use lib.Dec.{eqb, leb}
 use lib.Count.{ones}
 use borrow.Author.Tests.{eqb-true, eqb-false}
-use Rattle.bank.specs.declared.Sizes.{Sizes}
+use Rattle.bank.specs.Fives.{Sizes}
 use Rattle.bank.specs.SetUp.{sizes_ok, bank_of, refused_set_up, set_up}
 use Rattle.bank.specs.Bursts.{bursting}
 use Rattle.registers.specs.Map.{register_at}

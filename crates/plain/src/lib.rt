@@ -6,7 +6,8 @@
 ghost use Rattle.std.specs.Prelude.{◌≡◌, true, List, ℕ, length};
 ghost use Rattle.bank.specs.SetUp.{total};
 ghost use Rattle.model.specs.Engine.{step};
-ghost use Rattle.effect.specs.Effects.{ops_of, effect_of};
+ghost use Rattle.effect.specs.Ops.{ops_of};
+ghost use Rattle.effect.specs.Effects.{effect_of};
 ghost use Rattle.faults.specs.Faults.{fault_number};
 ghost use Rattle.plain_model.specs.Plain.{plain, view_plain, headed, plain_formed};
 ghost use Rattle.plain_model.specs.PlainLaws.{headless, refused_plain};

@@ -15,7 +15,11 @@ use Rattle.bank.specs.Queues.{Queues, queues_in, levels_of}
 use Rattle.bank.specs.SetUp.{total}
 use Rattle.bank.proofs.Laws.{Formed, formed_is, formed_of, ready}
 use Rattle.model.specs.declared.Call.{Call}
-use Rattle.model.specs.View.{Queue, Cmd, Cmdr, Sdo, Sdi, Ibi, Five, each, of, QueueView, View}
+use Rattle.model.specs.View.{QueueView, View}
+use Rattle.queues.specs.declared.Queue.{Queue}
+use Rattle.queues.specs.declared.Queue.TheVariants.{Cmd, Cmdr, Sdo, Sdi, Ibi}
+use Rattle.queues.specs.declared.Five.{Five}
+use Rattle.queues.specs.Each.{each, of}
 use Rattle.model.specs.Decision.{QueueOp, keep, clear, take, push, push2, first, Effect, effect}
 use Rattle.model.specs.Bursts.{decide}
 use Rattle.model.specs.Engine.{Step, outcome, step, Lent, step_lent}

@@ -6,8 +6,11 @@ use mathlib.Core.List.{List, [], ◌∷◌}
 use mathlib.Core.Logic.{◌⊎◌, inl, inr, ⊎_elim}
 use lib.ListN.{length}
 use Rattle.ring.proofs.Laws.{read_agree}
-use Rattle.bank.specs.declared.Counts.{Counts}
-use Rattle.model.specs.View.{Queue, Cmd, Cmdr, Sdo, Sdi, Ibi, Five, of}
+use Rattle.bank.specs.Fives.{Counts}
+use Rattle.queues.specs.declared.Queue.{Queue}
+use Rattle.queues.specs.declared.Queue.TheVariants.{Cmd, Cmdr, Sdo, Sdi, Ibi}
+use Rattle.queues.specs.declared.Five.{Five}
+use Rattle.queues.specs.Each.{of}
 use Rattle.model.specs.Decision.{QueueOp}
 use Rattle.model.specs.Lists.{on_words}
 use Rattle.model.proofs.Room.{by_queue}

@@ -10,11 +10,11 @@ use borrow.Author.Tests.{ne_eqb, eqb-true, eqb-false}
 use Rattle.ring.specs.Ring.{entries}
 use Rattle.bank.specs.declared.Answer.{Answer}
 use Rattle.bank.specs.declared.Bank.{Bank}
-use Rattle.bank.specs.declared.Sizes.{Sizes}
+use Rattle.bank.specs.Fives.{Sizes}
 use Rattle.bank.specs.Queues.{queues_in}
 use Rattle.bank.specs.SetUp.{set_up, total}
 use Rattle.bank.proofs.Laws.{formed_of, ready, bank_is, fresh_formed}
-use Rattle.model.specs.View.{of}
+use Rattle.queues.specs.Each.{of}
 use Rattle.model.specs.Decision.{first, Effect, effect}
 use Rattle.model.specs.Bursts.{decide}
 use Rattle.model.specs.Engine.{Step, outcome, step, Lent, step_lent, final, answers}

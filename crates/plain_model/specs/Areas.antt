@@ -3,8 +3,9 @@
 use Rattle.std.specs.Prelude.{ℕ, ◌+◌, List}
 use Rattle.ring.specs.declared.Words.{Words}
 use Rattle.ring.specs.Ring.{read_all}
-use Rattle.bank.specs.declared.Counts.{Counts}
-use Rattle.model.specs.View.{Five, each}
+use Rattle.bank.specs.Fives.{Counts}
+use Rattle.queues.specs.declared.Five.{Five}
+use Rattle.queues.specs.Each.{each}
 use Rattle.model.specs.Rings.{cmdr_at, sdo_at, sdi_at, ibi_at}
 use Rattle.plain_model.specs.declared.PlainArea.{PlainArea}
 

@@ -1,8 +1,10 @@
 -- What code that moves words asks of its caller: an operation stays within its area, and the areas within the store.
 use Rattle.std.specs.Prelude.{ℕ, ◌≤◌, ◌≡◌, List, length}
-use Rattle.bank.specs.declared.Counts.{Counts}
+use Rattle.bank.specs.Fives.{Counts}
 use Rattle.bank.specs.SetUp.{total}
-use Rattle.model.specs.View.{Queue, Five, of}
+use Rattle.queues.specs.declared.Queue.{Queue}
+use Rattle.queues.specs.declared.Five.{Five}
+use Rattle.queues.specs.Each.{of}
 use Rattle.model.specs.Decision.{QueueOp}
 use Rattle.model.specs.Fits.{Fits}
 use Rattle.plain_model.specs.declared.PlainArea.{PlainArea}

@@ -1,8 +1,8 @@
 -- What an operation does to a queue: to its level, and to the words of its area.
 use Rattle.std.specs.Prelude.{ℕ, zero, suc, ◌+◌, ◌-◌, List, get_or, set}
 use Rattle.ring.specs.Units.{words}
-use Rattle.bank.specs.declared.Counts.{Counts}
-use Rattle.model.specs.View.{Five}
+use Rattle.bank.specs.Fives.{Counts}
+use Rattle.queues.specs.declared.Five.{Five}
 use Rattle.model.specs.Decision.{QueueOp, keep, clear, take, push, push2}
 use Rattle.plain_model.specs.declared.PlainArea.{PlainArea}
 

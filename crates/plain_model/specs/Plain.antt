@@ -5,7 +5,8 @@ use Rattle.bank.specs.declared.State.{State}
 use Rattle.bank.specs.declared.Bank.{Bank}
 use Rattle.bank.specs.SetUp.{no_heads}
 use Rattle.bank.specs.Formed.{well_formed}
-use Rattle.model.specs.View.{each, QueueView, View}
+use Rattle.model.specs.View.{QueueView, View}
+use Rattle.queues.specs.Each.{each}
 use Rattle.model.specs.Decision.{Effect, Decision}
 use Rattle.model.specs.Engine.{Engine}
 use Rattle.model.specs.Rings.{Controller, guard_rings}

@@ -3,12 +3,13 @@
 use Rattle.std.specs.Prelude.{ℕ, ◌+◌, ◌-◌, ◌≤◌, ◌<◌, ◌≡◌, true, false, List, [], ◌⊎◌, length, get_or}
 use Rattle.number.specs.Names as number
 use Rattle.bank.specs.declared.Bank.{Bank}
-use Rattle.bank.specs.declared.Sizes.{Sizes}
+use Rattle.bank.specs.Fives.{Sizes}
 use Rattle.bank.specs.Queues.{queues_in}
 use Rattle.bank.specs.SetUp.{set_up, total}
 use Rattle.bank.specs.Formed.{well_formed}
 use Rattle.model.specs.declared.Call.{Call}
-use Rattle.model.specs.View.{Queue, of}
+use Rattle.queues.specs.declared.Queue.{Queue}
+use Rattle.queues.specs.Each.{of}
 use Rattle.model.specs.Decision.{take}
 use Rattle.model.specs.Engine.{Step, step, Lent, final, answers}
 use Rattle.model.specs.Rings.{areas, words_in, rings}

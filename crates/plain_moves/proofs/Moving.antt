@@ -5,11 +5,13 @@ use mathlib.Core.Bool.{true, false}
 use mathlib.Core.List.{List}
 use lib.ListN.{length}
 use Rattle.ring.specs.Units.{words}
-use Rattle.bank.specs.declared.Counts.{Counts}
-use Rattle.model.specs.View.{Queue, Five, of}
+use Rattle.bank.specs.Fives.{Counts}
+use Rattle.queues.specs.declared.Queue.{Queue}
+use Rattle.queues.specs.declared.Five.{Five}
+use Rattle.queues.specs.Each.{of}
 use Rattle.model.specs.Decision.{QueueOp}
-use Rattle.effect.specs.declared.Ops.{Ops}
-use Rattle.effect.specs.Effects.{five_of, ops_of}
+use Rattle.effect.specs.Ops.{Ops}
+use Rattle.effect.specs.Ops.{five_of, ops_of}
 use Rattle.plain_model.specs.declared.PlainArea.{PlainArea}
 use Rattle.plain_model.specs.Areas.{plain_areas}
 use Rattle.plain_model.specs.Moves.{on_level, on_plain_store, on_levels, on_plain_stores}

@@ -4,7 +4,7 @@
 
 ghost use Rattle.std.specs.Prelude.{◌≡◌, ◌+◌, ◌≤◌, length};
 ghost use Rattle.model.specs.Decision.{take, push, push2};
-ghost use Rattle.effect.specs.Effects.{op_of, ops_of};
+ghost use Rattle.effect.specs.Ops.{op_of, ops_of};
 ghost use Rattle.plain_model.specs.Areas.{plain_areas};
 ghost use Rattle.plain_model.specs.Moves.{on_level, shift, on_plain_store, on_levels, on_plain_stores};
 ghost use Rattle.plain_model.specs.FitsArea.{FitsArea, AllFitAreas};

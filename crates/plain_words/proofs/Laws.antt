@@ -5,8 +5,10 @@ use mathlib.Core.Path.{◌≡◌}
 use mathlib.Core.List.{List}
 use lib.ListN.{length, get_or, get_or-eq_default}
 use Rattle.ring.proofs.Laws.{read_length, read_at}
-use Rattle.bank.specs.declared.Counts.{Counts}
-use Rattle.model.specs.View.{Queue, Five, of}
+use Rattle.bank.specs.Fives.{Counts}
+use Rattle.queues.specs.declared.Queue.{Queue}
+use Rattle.queues.specs.declared.Five.{Five}
+use Rattle.queues.specs.Each.{of}
 use Rattle.model.specs.Decision.{QueueOp, keep_all}
 use Rattle.model.proofs.Room.{by_queue}
 use Rattle.plain_model.specs.declared.PlainArea.{PlainArea}

@@ -1,7 +1,8 @@
 -- Areas and first words of the plain engine, as code and decisions have them.
 use Rattle.std.specs.Prelude.{ℕ, List, get_or}
-use Rattle.bank.specs.declared.Counts.{Counts}
-use Rattle.model.specs.View.{Five, each}
+use Rattle.bank.specs.Fives.{Counts}
+use Rattle.queues.specs.declared.Five.{Five}
+use Rattle.queues.specs.Each.{each}
 use Rattle.effect.specs.Seen.{Front, Fronts}
 use Rattle.plain_model.specs.declared.PlainArea.{PlainArea}
 use Rattle.plain_model.specs.Areas.{plain_areas, plain_words}

@@ -1,7 +1,7 @@
 -- `demand.replays`, `data.replays`: demand 3 of paper 00, and where every data word went, for every file that is replayed on a fresh bank.
 use Rattle.std.specs.Prelude.{ℕ, ◌≡◌, not, List, []}
 use Rattle.std.proofs.Math.Option.{none, some}
-use Rattle.bank.specs.declared.Sizes.{Sizes}
+use Rattle.bank.specs.Fives.{Sizes}
 use Rattle.bank.specs.Phases.{idle}
 use Rattle.bank.specs.Queues.{queues_in}
 use Rattle.bank.specs.SetUp.{set_up}

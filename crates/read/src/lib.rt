@@ -10,6 +10,7 @@ ghost use Rattle.effect.specs.Seen.{Fronts, seen, taken_by};
 
 use bank::State;
 use effect::Effect;
+use queues::Queue;
 use read_rows::show;
 use registers::Register;
 
@@ -27,13 +28,12 @@ pub fn read(
     let k = st.caps;
     let l = st.levels;
     let g = st.regs;
-    let p = st.phase;
     match r {
         Register::Version => show(st, 0x00000100),
-        Register::Id => show(st, shown::wide(g.id)),
+        Register::Id => show(st, u32::from(g.id)),
         Register::Scratch => show(st, g.scratch),
         Register::Enable => show(st, shown::word_if(st.control.held, 1)),
-        Register::IrqMask => show(st, shown::wide(g.mask)),
+        Register::IrqMask => show(st, u32::from(g.mask)),
         Register::IrqPending => show(st, shown::sources_in(st, g.mask)),
         Register::IrqSource => show(st, shown::sources_in(st, 0xff)),
         Register::CmdRoom => show(st, bank::room(k.cmd.0, l.cmd.0)),
@@ -42,20 +42,20 @@ pub fn read(
         Register::SdiLevel => show(st, l.sdi.0),
         Register::IbiLevel => show(st, l.ibi.0),
         Register::CmdFifo => show(st, 0),
-        Register::CmdrFifo => read_rows::read_cmdr(st, word),
+        Register::CmdrFifo => read_rows::take(Queue::Cmdr, st, word),
         Register::SdoFifo => show(st, 0),
-        Register::SdiFifo => read_rows::read_sdi(st, word),
-        Register::IbiFifo => read_rows::read_ibi(st, word),
+        Register::SdiFifo => read_rows::take(Queue::Sdi, st, word),
+        Register::IbiFifo => read_rows::take(Queue::Ibi, st, word),
         Register::FifoStatus => show(st, shown::status_word(l.cmdr.0, l.ibi.0, l.sdi.0)),
-        Register::Ops => show(st, shown::ops_word(phases::is_idle(p), g.ops)),
+        Register::Ops => show(st, shown::ops_word(phases::is_idle(st.phase), g.ops)),
         Register::IbiConfig => show(st, 0),
         Register::DevChar => show(
             st,
-            shown::device_word(g.selected, shown::flags_at(flags, g.selected)),
+            shown::device_word(g.selected, bank::entry_at(flags, g.selected as usize, 0)),
         ),
-        Register::Watermark(i) => show(st, watermarks::count_at(g.marks, i)),
-        Register::OffloadCmd(i) => show(st, bank::word_at(commands, i as usize)),
-        Register::OffloadSdo(i) => show(st, bank::word_at(payloads, i as usize)),
+        Register::Watermark(q) => show(st, g.marks.of(q).0),
+        Register::OffloadCmd(i) => show(st, bank::entry_at(commands, i as usize, 0)),
+        Register::OffloadSdo(i) => show(st, bank::entry_at(payloads, i as usize, 0)),
         Register::Unmapped => effect::refuse(st, number::NO_REGISTER),
     }
 }

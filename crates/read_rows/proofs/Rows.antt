@@ -1,7 +1,9 @@
 -- A read of an empty queue, which shows its last word again.
 use mathlib.Core.Path.{◌≡◌}
 use borrow.Author.Tests.{eq-eqb}
-use Rattle.model.specs.View.{Queue, of, View}
+use Rattle.model.specs.View.{View}
+use Rattle.queues.specs.declared.Queue.{Queue}
+use Rattle.queues.specs.Each.{of}
 use Rattle.model.specs.Registers.{takes, shown_again, read}
 use Rattle.effect.specs.Effects.{verdict}
 

@@ -5,8 +5,10 @@
 ghost use Rattle.std.specs.Prelude.{◌≡◌};
 ghost use Rattle.registers.specs.Map.{register_at};
 
-// The registers, by 001's names. An offload register has its place in its memory, 0 to 15; a watermark the number of its
-// queue, 0 to 4 (`watermark.keeps`).
+use queues::Queue;
+
+// The registers, by 001's names. An offload register has its place in its memory, 0 to 15; a watermark its queue
+// (`watermark.keeps`).
 #[derive(Clone, Copy)]
 pub enum Register {
     Version,
@@ -30,7 +32,7 @@ pub enum Register {
     Ops,
     IbiConfig,
     DevChar,
-    Watermark(u32),
+    Watermark(Queue),
     OffloadCmd(u32),
     OffloadSdo(u32),
     // Any other offset.
@@ -64,21 +66,21 @@ pub fn register_at(offset: u16) -> Register
         0x100 => Register::Ops,
         0x140 => Register::IbiConfig,
         0x180 => Register::DevChar,
-        0x200 => Register::Watermark(0),
-        0x204 => Register::Watermark(1),
-        0x208 => Register::Watermark(2),
-        0x20c => Register::Watermark(3),
-        0x210 => Register::Watermark(4),
+        0x200 => Register::Watermark(Queue::Cmd),
+        0x204 => Register::Watermark(Queue::Cmdr),
+        0x208 => Register::Watermark(Queue::Sdo),
+        0x20c => Register::Watermark(Queue::Sdi),
+        0x210 => Register::Watermark(Queue::Ibi),
         0x2c0..=0x2fc => {
             if offset % 4 == 0 {
-                Register::OffloadCmd(((offset - 0x2c0) / 4) as u32)
+                Register::OffloadCmd(u32::from((offset - 0x2c0) / 4))
             } else {
                 Register::Unmapped
             }
         }
         0x300..=0x33c => {
             if offset % 4 == 0 {
-                Register::OffloadSdo(((offset - 0x300) / 4) as u32)
+                Register::OffloadSdo(u32::from((offset - 0x300) / 4))
             } else {
                 Register::Unmapped
             }

@@ -7,7 +7,10 @@ use Rattle.ring.specs.declared.Ring.{Ring}
 use Rattle.ring.specs.Ring.{Valid}
 use Rattle.bank.specs.Queues.{Queues}
 use Rattle.bank.specs.Ready.{Ready}
-use Rattle.model.specs.View.{Queue, Cmd, Cmdr, Sdo, Sdi, Ibi, Five, of}
+use Rattle.queues.specs.declared.Queue.{Queue}
+use Rattle.queues.specs.declared.Queue.TheVariants.{Cmd, Cmdr, Sdo, Sdi, Ibi}
+use Rattle.queues.specs.declared.Five.{Five}
+use Rattle.queues.specs.Each.{of}
 use Rattle.model.specs.Decision.{QueueOp}
 use Rattle.model.specs.Rings.{Area, area, areas, view_queues, on_ring, on_store, on_rings, on_stores}
 use Rattle.model.specs.Fits.{Fits, AllFit}

@@ -9,7 +9,7 @@ ghost use Rattle.bank.specs.Ready.{Ready};
 ghost use Rattle.model.specs.Decision.{push2};
 ghost use Rattle.model.specs.Rings.{area, areas, on_ring, on_store, on_rings, on_stores, view_queues};
 ghost use Rattle.model.specs.Fits.{Fits, AllFit};
-ghost use Rattle.effect.specs.Effects.{op_of, five_of, ops_of};
+ghost use Rattle.effect.specs.Ops.{op_of, five_of, ops_of};
 ghost use Rattle.ring_moves.specs.Moved.{moved_to};
 
 use bank::{Counts, Heads};
@@ -111,7 +111,7 @@ fn move_all(o: Ops, k: Counts, l: Counts, h: Heads, store: &mut [u32]) -> Moved
 }
 
 // The operations on all five queues where `any` holds; else nothing moves.
-#[tactic(auto, unfolding(model::specs::Rings::on_ring, model::specs::Rings::on_store, effect::specs::Effects::ops_of))]
+#[tactic(auto, unfolding(model::specs::Rings::on_ring, model::specs::Rings::on_store))]
 pub fn move_any(o: Ops, k: Counts, l: Counts, h: Heads, store: &mut [u32]) -> Moved
     requires { (Ready (queues_of k l h) store.old) × (AllFit (ops_of o) (view_queues (queues_of k l h) store.old)) }
     ensures { (result ≡ moved_to (on_rings (ops_of o) (queues_of k l h))) × (store.new ≡ on_stores (ops_of o) (areas (queues_of k l h)) store.old) }

@@ -7,7 +7,8 @@ use Rattle.ring.specs.declared.Ring.{Ring}
 use Rattle.ring.specs.Ring.{Valid}
 use Rattle.bank.specs.Queues.{Queues}
 use Rattle.bank.specs.Ready.{Ready}
-use Rattle.model.specs.View.{Queue, of}
+use Rattle.queues.specs.declared.Queue.{Queue}
+use Rattle.queues.specs.Each.{of}
 use Rattle.model.specs.Rings.{areas}
 use Rattle.model.proofs.Room.{by_queue}
 

@@ -1,7 +1,7 @@
 -- The first two words of each queue of the ring engine, as decisions ask for them.
 use Rattle.std.specs.Prelude.{ℕ, List, get_or}
 use Rattle.bank.specs.Queues.{Queues}
-use Rattle.model.specs.View.{each}
+use Rattle.queues.specs.Each.{each}
 use Rattle.model.specs.Rings.{Area, areas, words_in}
 use Rattle.effect.specs.Seen.{Front, Fronts}
 

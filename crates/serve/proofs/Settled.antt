@@ -4,7 +4,7 @@ use mathlib.Core.Path.{◌≡◌, refl}
 use mathlib.Core.List.{List}
 use mathlib.Core.Option.{Option, none, some}
 use Rattle.bank.specs.declared.State.{State}
-use Rattle.bank.specs.declared.Heads.{Heads}
+use Rattle.bank.specs.Fives.{Heads}
 use Rattle.model.specs.View.{Tables, View}
 use Rattle.model.specs.Decision.{Effect, Decision, first, effect}
 use Rattle.model.specs.Engine.{outcome}

@@ -3,14 +3,15 @@ use Prim.Native.Nat.{ℕ}
 use mathlib.Core.Path.{◌≡◌, ap, sym, ◌∙◌}
 use mathlib.Core.List.{List}
 use Rattle.bank.specs.declared.State.{State}
-use Rattle.bank.specs.declared.Heads.{Heads}
+use Rattle.bank.specs.Fives.{Heads}
 use Rattle.bank.specs.Queues.{queues_of}
 use Rattle.bank.specs.Ready.{Ready}
 use Rattle.model.specs.View.{Tables}
 use Rattle.model.specs.Rings.{areas, on_rings, on_stores}
 use Rattle.model.proofs.Rings.{caps_same}
 use Rattle.effect.specs.declared.Effect.{Effect}
-use Rattle.effect.specs.Effects.{ops_of, tables_by, effect_of}
+use Rattle.effect.specs.Ops.{ops_of}
+use Rattle.effect.specs.Effects.{tables_by, effect_of}
 use Rattle.answer.specs.declared.Next.{Next}
 use Rattle.answer.specs.Given.{given, next_of, served}
 use Rattle.ring_moves.specs.declared.Moved.{Moved}

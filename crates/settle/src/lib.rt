@@ -9,7 +9,8 @@ ghost use Rattle.model.specs.Rings.{view_queues};
 ghost use Rattle.model.specs.Fits.{AllFit};
 ghost use Rattle.answer.specs.Given.{served};
 ghost use Rattle.answer.specs.Memory.{lent, left, step_of};
-ghost use Rattle.effect.specs.Effects.{ops_of, effect_of};
+ghost use Rattle.effect.specs.Ops.{ops_of};
+ghost use Rattle.effect.specs.Effects.{effect_of};
 
 use answer::Next;
 use bank::{Heads, State};

@@ -20,14 +20,15 @@ pub fn word_if(test: bool, w: u32) -> u32
 fn source_bits(m: u8, a: bool, b: bool, c: bool, d: bool, e: bool, f: bool, g: bool, h: bool) -> u32
     ensures { result ≡ word_if (a && bit 0 m) 1 + word_if (b && bit 1 m) 2 + word_if (c && bit 2 m) 4 + word_if (d && bit 3 m) 8 + word_if (e && bit 4 m) 0x10 + word_if (f && bit 5 m) 0x20 + word_if (g && bit 6 m) 0x40 + word_if (h && bit 7 m) 0x80 }
 {
-    word_if(a & bank::byte_low_bit(m), 1)
-        + word_if(b & (m / 2 % 2 == 1), 2)
-        + word_if(c & (m / 4 % 2 == 1), 4)
-        + word_if(d & (m / 8 % 2 == 1), 8)
-        + word_if(e & (m / 0x10 % 2 == 1), 0x10)
-        + word_if(f & (m / 0x20 % 2 == 1), 0x20)
-        + word_if(g & (m / 0x40 % 2 == 1), 0x40)
-        + word_if(h & (m / 0x80 % 2 == 1), 0x80)
+    let m = u32::from(m);
+    word_if(a & bank::bit(0, m), 1)
+        + word_if(b & bank::bit(1, m), 2)
+        + word_if(c & bank::bit(2, m), 4)
+        + word_if(d & bank::bit(3, m), 8)
+        + word_if(e & bank::bit(4, m), 0x10)
+        + word_if(f & bank::bit(5, m), 0x20)
+        + word_if(g & bank::bit(6, m), 0x40)
+        + word_if(h & bank::bit(7, m), 0x80)
 }
 
 // The interrupt sources that the mask has: all for IRQ_SOURCE (`source.read`), those of IRQ_MASK for IRQ_PENDING
@@ -58,34 +59,16 @@ pub fn status_word(cmdr: u32, ibi: u32, sdi: u32) -> u32
     word_if(cmdr == 0, 1) + word_if(ibi == 0, 2) + word_if(sdi == 0, 4)
 }
 
-// A byte as a word.
-pub fn wide(x: u8) -> u32
-    ensures { (result ≡ x) × (result < 256) }
-{
-    x as u32
-}
-
 // OPS, with its bit 7 (`ops.keeps`).
 pub fn ops_word(idle: bool, ops: u8) -> u32
     ensures { result ≡ word_if idle 0x80 + ops }
 {
-    word_if(idle, 0x80) + wide(ops)
-}
-
-// The flags of a device, or 0 past the last address.
-pub fn flags_at(flags: &[u8], a: u8) -> u8
-    ensures { result ≡ get_or flags.now a 0 }
-{
-    let at = a as usize;
-    if at < flags.len() {
-        return flags[at];
-    }
-    0
+    word_if(idle, 0x80) + u32::from(ops)
 }
 
 // DEV_CHAR: the selected address and its flags (`dev-char.read`).
 pub fn device_word(selected: u8, f: u8) -> u32
     ensures { result ≡ selected * 2 ^ 9 + f * 2 }
 {
-    wide(selected) * 0x200 + wide(f) * 2
+    u32::from(selected) * 0x200 + u32::from(f) * 2
 }

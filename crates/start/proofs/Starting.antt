@@ -5,7 +5,8 @@ use mathlib.Core.Bool.{cond, ◌||◌}
 use lib.ListN.{get_or}
 use Rattle.bank.specs.Phases.{broadcast}
 use Rattle.bank.specs.Bits.{bit, bits}
-use Rattle.model.specs.View.{each, View}
+use Rattle.model.specs.View.{View}
+use Rattle.queues.specs.Each.{each}
 use Rattle.model.specs.Decision.{keep, take, Effect, unchanged, ◌with_value◌, ◌with_phase◌, ◌with_queues◌}
 use Rattle.model.specs.Commands.{two_words, kind_of, begun}
 use Rattle.model.specs.Calls.{start}

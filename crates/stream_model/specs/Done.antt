@@ -3,7 +3,7 @@
 use Rattle.std.specs.Prelude.{ℕ, ◌≡◌, cond, ◌&&◌, List, [], ◌++◌, eqb, length, drop}
 use Rattle.std.proofs.Math.Option.{none, some}
 use Rattle.number.specs.Names as number
-use Rattle.bank.specs.declared.Sizes.{Sizes}
+use Rattle.bank.specs.Fives.{Sizes}
 use Rattle.bank.specs.SetUp.{set_up}
 use Rattle.model.specs.declared.Call.{Call}
 use Rattle.model.specs.Engine.{lending}

@@ -1,7 +1,7 @@
 -- Lines of the test programs, read byte by byte as `lines` reads those of a session: B, G, O and P are letters too, and B has eleven fields.
 use Rattle.std.specs.Prelude.{ℕ, ◌+◌, ◌%◌, false, true, cond, not, ◌&&◌, ◌||◌, List, eqb, leb, get_or, set, replicate}
 use Rattle.bank.specs.declared.Answer.{Answer}
-use Rattle.bank.specs.declared.Sizes.{Sizes}
+use Rattle.bank.specs.Fives.{Sizes}
 use Rattle.lines.specs.declared.Reading.{Reading}
 use Rattle.lines.specs.Automaton.{reading_with, unread, skipped, eat_of}
 use Rattle.trial_lines.specs.declared.Line.{Line}

@@ -6,12 +6,15 @@ use mathlib.Core.Bool.{cond}
 use lib.Dec.{ltb}
 use borrow.Author.Tests.{lt-ltb}
 use Rattle.bank.specs.declared.State.{State}
-use Rattle.model.specs.View.{Queue, Cmd, Cmdr, Sdo, Sdi, Ibi, of, Tables, View}
+use Rattle.model.specs.View.{Tables, View}
+use Rattle.queues.specs.declared.Queue.{Queue}
+use Rattle.queues.specs.declared.Queue.TheVariants.{Cmd, Cmdr, Sdo, Sdi, Ibi}
+use Rattle.queues.specs.Each.{of}
 use Rattle.model.specs.Decision.{Decision, unchanged, ◌with_number◌}
 use Rattle.model.specs.Registers.{holds, watermark, count_of, write}
 use Rattle.effect.specs.Effects.{number, verdict}
 use Rattle.effect.specs.Seen.{Fronts, seen}
-use Rattle.effect.proofs.Laws.{refused_as}
+use Rattle.effect.proofs.Laws.{refused_as, cap_seen}
 
 module _ (q : Queue) (x : ℕ) (st : State) (t : Tables) (f : Fronts) where
   abbrev low : ℕ
@@ -23,15 +26,8 @@ module _ (q : Queue) (x : ℕ) (st : State) (t : Tables) (f : Fronts) where
   abbrev decides : View → Decision
   decides v = write (holds (watermark q)) v x
 
-  cap_seen : (q : Queue) → (of q view.queues).cap ≡ count_of q st.caps
-  cap_seen Cmd = refl
-  cap_seen Cmdr = refl
-  cap_seen Sdo = refl
-  cap_seen Sdi = refl
-  cap_seen Ibi = refl
-
   numbered : number (decides view) ≡ cond (ltb (count_of q st.caps) low) 30 0
-  numbered = ap (λ (n : ℕ). cond (ltb n low) 30 0) (cap_seen q)
+  numbered = ap (λ (n : ℕ). cond (ltb n low) 30 0) (cap_seen st t f q)
 
   pub above : count_of q st.caps < low → (unchanged view with_number 30) ≡ verdict decides view
   above h = refused_as decides view 30 (λ z. omega (arith, z)) (sym (numbered ∙ ap (λ b. cond b 30 0) (lt-ltb _ low h)))

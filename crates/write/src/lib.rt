@@ -38,7 +38,7 @@ pub fn write(r: Register, st: State, x: u32) -> Effect
         Register::Ops => write_cells::write_ops(st, x),
         Register::IbiConfig => write_cells::write_config(st, x),
         Register::DevChar => write_cells::write_device(st, x),
-        Register::Watermark(i) => watermarks::write_watermark(st, i, x),
+        Register::Watermark(q) => watermarks::write_watermark(st, q, x),
         Register::OffloadCmd(i) => write_cells::write_offload_cmd(st, i, x),
         Register::OffloadSdo(i) => write_cells::write_offload_sdo(st, i, x),
         Register::Unmapped => refuse(st, number::NO_REGISTER),

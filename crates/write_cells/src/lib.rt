@@ -16,13 +16,10 @@ use bank::{Control, Regs, State};
 use effect::{Effect, Table};
 
 // A write that changes no more than the registers, with its number.
-fn put_regs(st: State, g: Regs, n: u32) -> Effect
-    ensures { (t : Tables) (f : Fronts) → effect_of result t ≡ (unchanged (seen st t f) with_number n with_regs g) }
+fn put_regs(st: State, regs: Regs, n: u32) -> Effect
+    ensures { (t : Tables) (f : Fronts) → effect_of result t ≡ (unchanged (seen st t f) with_number n with_regs regs) }
 {
-    let c = st.control;
-    let p = st.phase;
-    let o = effect::none();
-    effect::done(st, 0, n, g, c, p, o)
+    effect::done(State { regs, ..st }, 0, n, None)
 }
 
 // SCRATCH (`scratch.keeps`).
@@ -30,9 +27,8 @@ fn put_regs(st: State, g: Regs, n: u32) -> Effect
 pub fn write_scratch(st: State, x: u32) -> Effect
     ensures { (t : Tables) (f : Fronts) → effect_of result t ≡ verdict (λ v. write (row Scratch) v x) (seen st t f) }
 {
-    let mut g = st.regs;
-    g.scratch = x;
-    put_regs(st, g, 0)
+    let regs = Regs { scratch: x, ..st.regs };
+    put_regs(st, regs, 0)
 }
 
 // IRQ_MASK (`mask.keeps`).
@@ -40,9 +36,8 @@ pub fn write_scratch(st: State, x: u32) -> Effect
 pub fn write_mask(st: State, x: u32) -> Effect
     ensures { (t : Tables) (f : Fronts) → effect_of result t ≡ verdict (λ v. write (row IrqMask) v x) (seen st t f) }
 {
-    let mut g = st.regs;
-    g.mask = (x % 0x100) as u8;
-    put_regs(st, g, 0)
+    let regs = Regs { mask: (x % 0x100) as u8, ..st.regs };
+    put_regs(st, regs, 0)
 }
 
 // IBI_CONFIG (`ibi-config.keeps`).
@@ -50,9 +45,8 @@ pub fn write_mask(st: State, x: u32) -> Effect
 pub fn write_config(st: State, x: u32) -> Effect
     ensures { (t : Tables) (f : Fronts) → effect_of result t ≡ verdict (λ v. write (row IbiConfig) v x) (seen st t f) }
 {
-    let mut g = st.regs;
-    g.config = (x % 4) as u8;
-    put_regs(st, g, 0)
+    let regs = Regs { config: (x % 4) as u8, ..st.regs };
+    put_regs(st, regs, 0)
 }
 
 // The number of a write to OPS or an offload memory: 6 while a burst is open, which runs by these (`burst.holds`).
@@ -66,8 +60,7 @@ fn burst_number(c: Control) -> u32
 fn ops_if(ops: u8, comes: bool, x: u32) -> u8
     ensures { result ≡ cond comes (x % 2 ^ 7) ops }
 {
-    let new = (x % 0x80) as u8;
-    if comes { new } else { ops }
+    bank::select(comes, (x % 0x80) as u8, ops)
 }
 
 // OPS (`ops.keeps`).
@@ -75,9 +68,8 @@ pub fn write_ops(st: State, x: u32) -> Effect
     ensures { (t : Tables) (f : Fronts) → effect_of result t ≡ verdict (λ v. write (row Ops) v x) (seen st t f) }
 {
     let n = burst_number(st.control);
-    let mut g = st.regs;
-    g.ops = ops_if(st.regs.ops, n == 0, x);
-    put_regs(st, g, n)
+    let regs = Regs { ops: ops_if(st.regs.ops, n == 0, x), ..st.regs };
+    put_regs(st, regs, n)
 }
 
 // DEV_CHAR: `dev-char.select`, `dev-char.flags`.
@@ -85,28 +77,17 @@ pub fn write_ops(st: State, x: u32) -> Effect
 pub fn write_device(st: State, x: u32) -> Effect
     ensures { (t : Tables) (f : Fronts) → effect_of result t ≡ verdict (λ v. write (row DevChar) v x) (seen st t f) }
 {
-    let mut g = st.regs;
-    g.selected = (x / 0x200 % 0x80) as u8;
-    let c = st.control;
-    let p = st.phase;
-    let o = effect::none();
-    let t = effect::table_if(
-        x / 0x100 % 2 == 1,
-        Table::Flags(x / 0x200 % 0x80, (x / 2 % 8) as u8),
-    );
-    effect::done_with(st, 0, 0, g, c, p, o, t)
+    let address = x / 0x200 % 0x80;
+    let regs = Regs { selected: address as u8, ..st.regs };
+    let flags = Table::Flags(address, (x / 2 % 8) as u8);
+    effect::done_with(State { regs, ..st }, 0, 0, None, effect::table_if(bank::bit(8, x), flags))
 }
 
 // A write of one word of an offload memory (`offload.keeps`), with its number.
-fn put_entry(st: State, n: u32, t: Table) -> Effect
-    ensures { (x : Tables) → effect_of result x ≡ record { value = 0; number = n; regs = st.regs; control = st.control; phase = st.phase; tables = cond (eqb n 0) (tables_by t x) x; ops = keep_all } }
+fn put_entry(st: State, n: u32, entry: Table) -> Effect
+    ensures { (x : Tables) → effect_of result x ≡ record { value = 0; number = n; regs = st.regs; control = st.control; phase = st.phase; tables = cond (eqb n 0) (tables_by entry x) x; ops = keep_all } }
 {
-    let g = st.regs;
-    let c = st.control;
-    let p = st.phase;
-    let o = effect::none();
-    let u = effect::table_if(n == 0, t);
-    effect::done_with(st, 0, n, g, c, p, o, u)
+    effect::done_with(st, 0, n, None, effect::table_if(n == 0, entry))
 }
 
 // An offload command (`offload.keeps`).
@@ -114,8 +95,7 @@ fn put_entry(st: State, n: u32, t: Table) -> Effect
 pub fn write_offload_cmd(st: State, i: u32, x: u32) -> Effect
     ensures { (t : Tables) (f : Fronts) → effect_of result t ≡ verdict (λ v. write (row (OffloadCmd i)) v x) (seen st t f) }
 {
-    let n = burst_number(st.control);
-    put_entry(st, n, Table::Command(i, x))
+    put_entry(st, burst_number(st.control), Table::Command(i, x))
 }
 
 // An offload data word (`offload.keeps`).
@@ -123,6 +103,5 @@ pub fn write_offload_cmd(st: State, i: u32, x: u32) -> Effect
 pub fn write_offload_sdo(st: State, i: u32, x: u32) -> Effect
     ensures { (t : Tables) (f : Fronts) → effect_of result t ≡ verdict (λ v. write (row (OffloadSdo i)) v x) (seen st t f) }
 {
-    let n = burst_number(st.control);
-    put_entry(st, n, Table::Payload(i, x))
+    put_entry(st, burst_number(st.control), Table::Payload(i, x))
 }

@@ -12,27 +12,26 @@ ghost use Rattle.write_control.specs.Numbers.{push_number};
 
 use bank::{Control, Phase, State};
 use effect::{Effect, Op};
+use queues::Queue;
 
 // A 1 clears the pending bit at its place (`pending.clear`).
 fn acknowledge(c: Control, x: u32) -> Control
     ensures { result ≡ acknowledged x c }
 {
-    let mut next = c;
-    next.cmdrpending = !(x / 32 % 2 == 1) & c.cmdrpending;
-    next.ibipending = !(x / 0x40 % 2 == 1) & c.ibipending;
-    next.daapending = !(x / 0x80 % 2 == 1) & c.daapending;
-    next
+    Control {
+        cmdrpending: !bank::bit(5, x) & c.cmdrpending,
+        ibipending: !bank::bit(6, x) & c.ibipending,
+        daapending: !bank::bit(7, x) & c.daapending,
+        ..c
+    }
 }
 
 #[tactic(auto, unfolding(effect::specs::Effects::verdict))]
 pub fn write_pending(st: State, x: u32) -> Effect
     ensures { (t : Tables) (f : Fronts) → effect_of result t ≡ verdict (λ v. write (row IrqPending) v x) (seen st t f) }
 {
-    let g = st.regs;
-    let c = acknowledge(st.control, x);
-    let p = st.phase;
-    let o = effect::none();
-    effect::done(st, 0, 0, g, c, p, o)
+    let control = acknowledge(st.control, x);
+    effect::done(State { control, ..st }, 0, 0, None)
 }
 
 // ENABLE written 1 (`enable.reset`): the registers stay.
@@ -40,10 +39,9 @@ pub fn write_pending(st: State, x: u32) -> Effect
 fn reset(st: State) -> Effect
     ensures { (t : Tables) (f : Fronts) → effect_of result t ≡ enable (seen st t f) true }
 {
-    let g = st.regs;
-    let c = bank::cleared_control(true);
-    let o = effect::clear_all();
-    effect::done(st, 0, 0, g, c, Phase::Idle, o)
+    let control = bank::cleared_control(true);
+    let phase = Phase::Idle;
+    effect::done(State { control, phase, ..st }, 0, 0, effect::clear_all())
 }
 
 // ENABLE written 0 (`enable.release`).
@@ -51,21 +49,14 @@ fn reset(st: State) -> Effect
 fn release(st: State) -> Effect
     ensures { (t : Tables) (f : Fronts) → effect_of result t ≡ enable (seen st t f) false }
 {
-    let g = st.regs;
-    let mut c = st.control;
-    c.held = false;
-    let p = st.phase;
-    let o = effect::none();
-    effect::done(st, 0, 0, g, c, p, o)
+    let control = Control { held: false, ..st.control };
+    effect::done(State { control, ..st }, 0, 0, None)
 }
 
 pub fn write_enable(st: State, x: u32) -> Effect
     ensures { (t : Tables) (f : Fronts) → effect_of result t ≡ verdict (λ v. write (row Enable) v x) (seen st t f) }
 {
-    if x % 2 == 1 {
-        return reset(st);
-    }
-    release(st)
+    if bank::bit(0, x) { reset(st) } else { release(st) }
 }
 
 // The number of a push: 5 in reset, 1 where the queue is full, else 0 (`cmd.push`, `sdo.push`).
@@ -82,11 +73,7 @@ pub fn write_cmd(st: State, x: u32) -> Effect
     ensures { (t : Tables) (f : Fronts) → effect_of result t ≡ verdict (λ v. write (row CmdFifo) v x) (seen st t f) }
 {
     let n = push_number(st.control.held, st.caps.cmd.0, st.levels.cmd.0);
-    let g = st.regs;
-    let c = st.control;
-    let p = st.phase;
-    let o = effect::on_cmd(n == 0, Op::Push(x));
-    effect::done(st, 0, n, g, c, p, o)
+    effect::done(st, 0, n, effect::on(Queue::Cmd, n == 0, Op::Push(x)))
 }
 
 // A push to SDO (`sdo.push`), which clears pending bit 7 (`source.address`).
@@ -94,10 +81,9 @@ pub fn write_sdo(st: State, x: u32) -> Effect
     ensures { (t : Tables) (f : Fronts) → effect_of result t ≡ verdict (λ v. write (row SdoFifo) v x) (seen st t f) }
 {
     let n = push_number(st.control.held, st.caps.sdo.0, st.levels.sdo.0);
-    let g = st.regs;
-    let mut c = st.control;
-    c.daapending = !(n == 0) & st.control.daapending;
-    let p = st.phase;
-    let o = effect::on_sdo(n == 0, Op::Push(x));
-    effect::done(st, 0, n, g, c, p, o)
+    let control = Control {
+        daapending: !(n == 0) & st.control.daapending,
+        ..st.control
+    };
+    effect::done(State { control, ..st }, 0, n, effect::on(Queue::Sdo, n == 0, Op::Push(x)))
 }

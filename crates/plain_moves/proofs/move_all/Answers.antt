@@ -1,8 +1,8 @@
 -- `plain_moves::move_all`: nothing happens, or one operation after another.
 use Rattle.std.proofs.Common.{ap, refl, ◌∙◌}
 use borrow.Author.Tests.{not-true, not-false}
-use Rattle.model.specs.View.{Cmd, Cmdr, Sdo, Sdi, Ibi}
-use Rattle.effect.specs.Effects.{five_of}
+use Rattle.queues.specs.declared.Queue.TheVariants.{Cmd, Cmdr, Sdo, Sdi, Ibi}
+use Rattle.effect.specs.Ops.{five_of}
 use Rattle.plain_words.specs.declared.PlainAreas.{PlainAreas}
 use Rattle.plain_moves.proofs.Moving.{kept, touched, refit, asked, all_moved}
 use Rattle.plain_moves.proofs.move_all.Goals as goal

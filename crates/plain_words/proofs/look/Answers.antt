@@ -1,6 +1,6 @@
 -- `plain_words::look`: each word is looked for inside the store.
 use Rattle.std.proofs.Common.{ap}
-use Rattle.model.specs.View.{Cmd, Cmdr, Sdo, Sdi, Ibi}
+use Rattle.queues.specs.declared.Queue.TheVariants.{Cmd, Cmdr, Sdo, Sdi, Ibi}
 use Rattle.plain_words.specs.declared.PlainAreas.{PlainAreas}
 use Rattle.plain_words.proofs.Laws.{reach}
 use Rattle.plain_words.proofs.look.Goals as goal

@@ -1,6 +1,7 @@
 -- `read::read`: each register, by its row.
-use Rattle.std.proofs.Common.{arith, refl, ◌∙◌}
+use Rattle.std.proofs.Common.{ap, arith, refl, ◌∙◌}
 use Rattle.registers.specs.declared.Register.TheVariants.{Version, Id, Scratch, Enable, IrqMask, IrqPending, IrqSource, CmdRoom, CmdrLevel, SdoRoom, SdiLevel, IbiLevel, CmdFifo, SdoFifo, FifoStatus, Ops, IbiConfig, DevChar, Watermark, OffloadCmd, OffloadSdo, Unmapped}
+use Rattle.ring.specs.declared.Words.{Words}
 use Rattle.model.specs.Registers.{row, read}
 use Rattle.effect.proofs.Laws.{refused_as, no_tables, no_fronts}
 use Rattle.read.proofs.Rows.{shown_row}
@@ -10,7 +11,7 @@ pub returns-in-Version : goal.returns-in-Version
 returns-in-Version c = λ o f. rw c.in-Version.is (λ w. c.show.ensures _ f ∙ shown_row Version _ refl refl)
 
 pub returns-in-Id : goal.returns-in-Id
-returns-in-Id c = λ o f. rw c.in-Id.is (λ w. c.show-in-Id.ensures _ f ∙ shown_row Id _ c.wide.ensures.0 refl)
+returns-in-Id c = λ o f. rw c.in-Id.is (λ w. c.show-in-Id.ensures _ f ∙ shown_row Id _ c.from.ensures refl)
 
 pub returns-in-Scratch : goal.returns-in-Scratch
 returns-in-Scratch c = λ o f. rw c.in-Scratch.is (λ w. c.show-in-Scratch.ensures _ f ∙ shown_row Scratch _ refl refl)
@@ -19,7 +20,7 @@ pub returns-in-Enable : goal.returns-in-Enable
 returns-in-Enable c = λ o f. rw c.in-Enable.is (λ w. c.show-in-Enable.ensures _ f ∙ shown_row Enable _ c.word_if.ensures.0 refl)
 
 pub returns-in-IrqMask : goal.returns-in-IrqMask
-returns-in-IrqMask c = λ o f. rw c.in-IrqMask.is (λ w. c.show-in-IrqMask.ensures _ f ∙ shown_row IrqMask _ c.wide-in-IrqMask.ensures.0 refl)
+returns-in-IrqMask c = λ o f. rw c.in-IrqMask.is (λ w. c.show-in-IrqMask.ensures _ f ∙ shown_row IrqMask _ c.from-in-IrqMask.ensures refl)
 
 pub returns-in-IrqPending : goal.returns-in-IrqPending
 returns-in-IrqPending c = λ o f. rw c.in-IrqPending.is (λ w. c.show-in-IrqPending.ensures _ f ∙ shown_row IrqPending _ (c.sources_in.ensures no_tables no_fronts) refl)
@@ -58,16 +59,16 @@ pub returns-in-IbiConfig : goal.returns-in-IbiConfig
 returns-in-IbiConfig c = λ o f. rw c.in-IbiConfig.is (λ w. c.show-in-IbiConfig.ensures _ f ∙ shown_row IbiConfig _ refl refl)
 
 pub returns-in-DevChar : goal.returns-in-DevChar
-returns-in-DevChar c = λ o f. rw c.in-DevChar.is (λ w. c.show-in-DevChar.ensures _ f ∙ shown_row DevChar _ (c.device_word.ensures ∙ rw c.flags_at.ensures) refl)
+returns-in-DevChar c = λ o f. rw c.in-DevChar.is (λ w. c.show-in-DevChar.ensures _ f ∙ shown_row DevChar _ (c.device_word.ensures ∙ rw c.entry_at.ensures) refl)
 
 pub returns-in-Watermark : goal.returns-in-Watermark
-returns-in-Watermark c = λ o f. rw c.in-Watermark.is (λ w. c.show-in-Watermark.ensures _ f ∙ shown_row (Watermark c.in-Watermark.i) _ c.count_at.ensures refl)
+returns-in-Watermark c = λ o f. rw c.in-Watermark.is (λ w. c.show-in-Watermark.ensures _ f ∙ shown_row (Watermark c.in-Watermark.q) _ (ap (λ (w : Words). w.0) c.of.ensures) refl)
 
 pub returns-in-OffloadCmd : goal.returns-in-OffloadCmd
-returns-in-OffloadCmd c = λ o f. rw c.in-OffloadCmd.is (λ w. c.show-in-OffloadCmd.ensures _ f ∙ shown_row (OffloadCmd c.in-OffloadCmd.i) _ c.word_at.ensures refl)
+returns-in-OffloadCmd c = λ o f. rw c.in-OffloadCmd.is (λ w. c.show-in-OffloadCmd.ensures _ f ∙ shown_row (OffloadCmd c.in-OffloadCmd.i) _ c.entry_at-in-OffloadCmd.ensures refl)
 
 pub returns-in-OffloadSdo : goal.returns-in-OffloadSdo
-returns-in-OffloadSdo c = λ o f. rw c.in-OffloadSdo.is (λ w. c.show-in-OffloadSdo.ensures _ f ∙ shown_row (OffloadSdo c.in-OffloadSdo.i) _ c.word_at-in-OffloadSdo.ensures refl)
+returns-in-OffloadSdo c = λ o f. rw c.in-OffloadSdo.is (λ w. c.show-in-OffloadSdo.ensures _ f ∙ shown_row (OffloadSdo c.in-OffloadSdo.i) _ c.entry_at-in-OffloadSdo.ensures refl)
 
 pub returns-in-Unmapped : goal.returns-in-Unmapped
 returns-in-Unmapped c = λ o f. rw c.in-Unmapped.is (λ w. c.refuse.ensures _ f ∙ refused_as (read (row Unmapped)) _ 4 (λ z. omega arith) refl)

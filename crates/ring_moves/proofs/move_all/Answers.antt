@@ -1,8 +1,8 @@
 -- Each operation is asked for where its ring stands, and five of them are those of the definition.
 use Rattle.std.proofs.Common.{refl, ◌∙◌}
 use Rattle.bank.specs.Queues.{queues_of}
-use Rattle.model.specs.View.{Cmd, Cmdr, Sdo, Sdi, Ibi}
-use Rattle.effect.specs.Effects.{five_of}
+use Rattle.queues.specs.declared.Queue.TheVariants.{Cmd, Cmdr, Sdo, Sdi, Ibi}
+use Rattle.effect.specs.Ops.{five_of}
 use Rattle.ring_moves.proofs.Laws.{asked, moves, all_moved}
 use Rattle.ring_moves.proofs.move_all.Goals as goal
 

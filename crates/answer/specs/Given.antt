@@ -1,14 +1,9 @@
 -- Contracts of calls: what code gives, as a step of the ring engine, and what it may ask past the two tests of bank and store.
 use Rattle.std.specs.Prelude.{ℕ, ◌≡◌, true, List, length}
 use Rattle.std.proofs.Math.Option.{none}
-use Rattle.bank.specs.Fives.{Counts}
 use Rattle.bank.specs.Fives.{Heads}
-use Rattle.bank.specs.declared.Regs.{Regs}
-use Rattle.bank.specs.declared.Control.{Control}
-use Rattle.bank.specs.declared.Phase.{Phase}
 use Rattle.bank.specs.declared.State.{State}
 use Rattle.bank.specs.declared.Bank.{Bank}
-use Rattle.bank.specs.declared.Answer.{Answer}
 use Rattle.bank.specs.Queues.{queues_of}
 use Rattle.bank.specs.SetUp.{total}
 use Rattle.bank.specs.Formed.{queues_ok, open_ok}
@@ -40,9 +35,6 @@ given y t s = record { answer = y.answer; next = controller (bank_with y.state y
 
 abbrev pub given_out : Out → List ℕ → List ℕ → Step Controller
 given_out y s o = record { answer = y.answer; next = controller y.bank s o }
-
-abbrev pub next_of : Counts → Counts → Heads → Regs → Control → Phase → Answer → Next
-next_of caps levels h g c p a = record { state = record { caps = caps; levels = levels; regs = g; control = c; phase = p }; heads = h; answer = a }
 
 abbrev pub refused_next : State → Heads → ℕ → Next
 refused_next st h n = record { state = st; heads = h; answer = record { value = 0; number = n } }

@@ -3,9 +3,9 @@
 #![tactic(auto)]
 
 ghost use Rattle.std.specs.Prelude.{◌≡◌};
-ghost use Rattle.answer.specs.Given.{next_of, refused_next};
+ghost use Rattle.answer.specs.Given.{refused_next};
 
-use bank::{Answer, Bank, Control, Counts, Heads, Phase, Regs, State};
+use bank::{Answer, Bank, Heads, State};
 
 // The state and the heads after a call, and its answer. The tables stay where they are.
 #[derive(Clone, Copy)]
@@ -22,28 +22,17 @@ pub struct Out {
     pub answer: Answer,
 }
 
-// What a call gives, put together field by field: see `bank::state_with`.
-pub fn done(
-    caps: Counts,
-    levels: Counts,
-    h: Heads,
-    g: Regs,
-    c: Control,
-    p: Phase,
-    a: Answer,
-) -> Next
-    ensures { result ≡ next_of caps levels h g c p a }
+// What a call gives, put together field by field: see `Five::by_field`.
+pub fn done(st: State, h: Heads, a: Answer) -> Next
+    ensures { result ≡ record { state = st; heads = h; answer = a } }
 {
-    let s = bank::state_with(caps, levels, g, c, p);
-    let heads = bank::heads_by_field(h);
-    let answer = Answer {
-        value: a.value,
-        number: a.number,
-    };
     Next {
-        state: s,
-        heads: heads,
-        answer: answer,
+        state: st.by_field(),
+        heads: h.by_field(),
+        answer: Answer {
+            value: a.value,
+            number: a.number,
+        },
     }
 }
 
@@ -52,12 +41,6 @@ pub fn done(
 pub fn refuse(st: State, h: Heads, n: u32) -> Next
     ensures { result ≡ refused_next st h n }
 {
-    let g = st.regs;
-    let c = st.control;
-    let p = st.phase;
-    let a = Answer {
-        value: 0,
-        number: n,
-    };
-    done(st.caps, st.levels, h, g, c, p, a)
+    let a = Answer { value: 0, number: n };
+    done(st, h, a)
 }

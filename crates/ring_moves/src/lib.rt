@@ -14,6 +14,7 @@ ghost use Rattle.ring_moves.specs.Moved.{moved_to};
 
 use bank::{Counts, Heads};
 use effect::{Op, Ops};
+use queues::{Five, Queue};
 use ring::{Ring, Words};
 
 // Levels and heads after the operations on all five queues.
@@ -49,80 +50,81 @@ fn apply(o: Op, r: Ring, base: usize, store: &mut [u32]) -> Ring
 }
 
 // Levels and heads out of five rings.
-fn gather(cmd: Ring, cmdr: Ring, sdo: Ring, sdi: Ring, ibi: Ring) -> Moved
-    ensures { result ≡ moved_to (record { cmd = cmd; cmdr = cmdr; sdo = sdo; sdi = sdi; ibi = ibi }) }
+fn gather(rings: Five<Ring>) -> Moved
+    ensures { result ≡ moved_to rings }
 {
-    let levels = Counts {
-        cmd: Words(cmd.level.0),
-        cmdr: Words(cmdr.level.0),
-        sdo: Words(sdo.level.0),
-        sdi: Words(sdi.level.0),
-        ibi: Words(ibi.level.0),
+    let levels = Five {
+        cmd: Words(rings.cmd.level.0),
+        cmdr: Words(rings.cmdr.level.0),
+        sdo: Words(rings.sdo.level.0),
+        sdi: Words(rings.sdi.level.0),
+        ibi: Words(rings.ibi.level.0),
     };
-    let heads = Heads {
-        cmd: cmd.head,
-        cmdr: cmdr.head,
-        sdo: sdo.head,
-        sdi: sdi.head,
-        ibi: ibi.head,
+    let heads = Five {
+        cmd: rings.cmd.head,
+        cmdr: rings.cmdr.head,
+        sdo: rings.sdo.head,
+        sdi: rings.sdi.head,
+        ibi: rings.ibi.head,
     };
-    Moved {
-        levels: levels,
-        heads: heads,
-    }
+    Moved { levels, heads }
 }
 
 // The operations on all five queues.
-fn move_all(o: Ops, k: Counts, l: Counts, h: Heads, store: &mut [u32]) -> Moved
+fn move_all(o: Five<Op>, k: Counts, l: Counts, h: Heads, store: &mut [u32]) -> Moved
     requires { (Ready (queues_of k l h) store.old) × (AllFit (five_of o) (view_queues (queues_of k l h) store.old)) }
     ensures { (result ≡ moved_to (on_rings (five_of o) (queues_of k l h))) × (store.new ≡ on_stores (five_of o) (areas (queues_of k l h)) store.old) }
 {
-    let a = o.cmd;
-    let b = o.cmdr;
-    let c = o.sdo;
-    let d = o.sdi;
-    let e = o.ibi;
-    let cmd = apply(a, rings::ring_of(k.cmd, h.cmd, l.cmd), 0, store);
+    let cmd = apply(
+        o.cmd,
+        rings::ring(Queue::Cmd, k, l, h),
+        rings::base(Queue::Cmd, k),
+        store,
+    );
     let cmdr = apply(
-        b,
-        rings::ring_of(k.cmdr, h.cmdr, l.cmdr),
-        rings::cmdr_at(k),
+        o.cmdr,
+        rings::ring(Queue::Cmdr, k, l, h),
+        rings::base(Queue::Cmdr, k),
         store,
     );
     let sdo = apply(
-        c,
-        rings::ring_of(k.sdo, h.sdo, l.sdo),
-        rings::sdo_at(k),
+        o.sdo,
+        rings::ring(Queue::Sdo, k, l, h),
+        rings::base(Queue::Sdo, k),
         store,
     );
     let sdi = apply(
-        d,
-        rings::ring_of(k.sdi, h.sdi, l.sdi),
-        rings::sdi_at(k),
+        o.sdi,
+        rings::ring(Queue::Sdi, k, l, h),
+        rings::base(Queue::Sdi, k),
         store,
     );
     let ibi = apply(
-        e,
-        rings::ring_of(k.ibi, h.ibi, l.ibi),
-        rings::ibi_at(k),
+        o.ibi,
+        rings::ring(Queue::Ibi, k, l, h),
+        rings::base(Queue::Ibi, k),
         store,
     );
-    gather(cmd, cmdr, sdo, sdi, ibi)
+    gather(Five {
+        cmd,
+        cmdr,
+        sdo,
+        sdi,
+        ibi,
+    })
 }
 
-// The operations on all five queues where `any` holds; else nothing moves.
+// The operations on all five queues, where there are any; else nothing moves.
 #[tactic(auto, unfolding(model::specs::Rings::on_ring, model::specs::Rings::on_store))]
 pub fn move_any(o: Ops, k: Counts, l: Counts, h: Heads, store: &mut [u32]) -> Moved
     requires { (Ready (queues_of k l h) store.old) × (AllFit (ops_of o) (view_queues (queues_of k l h) store.old)) }
     ensures { (result ≡ moved_to (on_rings (ops_of o) (queues_of k l h))) × (store.new ≡ on_stores (ops_of o) (areas (queues_of k l h)) store.old) }
 {
-    if o.any {
-        return move_all(o, k, l, h, store);
+    match o {
+        Some(each) => move_all(each, k, l, h, store),
+        None => Moved {
+            levels: l.by_field(),
+            heads: h.by_field(),
+        },
     }
-    let cmd = rings::ring_of(k.cmd, h.cmd, l.cmd);
-    let cmdr = rings::ring_of(k.cmdr, h.cmdr, l.cmdr);
-    let sdo = rings::ring_of(k.sdo, h.sdo, l.sdo);
-    let sdi = rings::ring_of(k.sdi, h.sdi, l.sdi);
-    let ibi = rings::ring_of(k.ibi, h.ibi, l.ibi);
-    gather(cmd, cmdr, sdo, sdi, ibi)
 }

@@ -30,13 +30,12 @@ pub fn settle(
     requires { let q = queues_of st.caps st.levels h in (Ready q store.old) × (AllFit (ops_of e.ops) (view_queues q store.old)) }
     ensures { let m = lent flags commands payloads store output in step_of result (left flags commands payloads store output) ≡ served st h m.tables m.store (effect_of e m.tables) }
 {
-    let t = e.table;
-    table_entries::put_table(t, flags, commands, payloads, output);
-    let o = e.ops;
-    let m = ring_moves::move_any(o, st.caps, st.levels, h, store);
-    let s = e.state;
-    let g = s.regs;
-    let c = s.control;
-    let p = s.phase;
-    answer::done(st.caps, m.levels, m.heads, g, c, p, e.answer)
+    table_entries::put_table(e.table, flags, commands, payloads, output);
+    let m = ring_moves::move_any(e.ops, st.caps, st.levels, h, store);
+    let next = State {
+        caps: st.caps,
+        levels: m.levels,
+        ..e.state
+    };
+    answer::done(next, m.heads, e.answer)
 }

@@ -8,21 +8,12 @@ ghost use Rattle.effect.specs.Effects.{tables_by};
 use effect::Table;
 
 // One entry of a table. At a place past the end nothing is stored, so that no caller has to test the place.
-fn put_flags(flags: &mut [u8], i: u32, v: u8)
-    ensures { flags.new ≡ set flags.old i v }
+fn put<T: Copy>(table: &mut [T], i: u32, v: T)
+    ensures { table.new ≡ set table.old i v }
 {
     let at = i as usize;
-    if at < flags.len() {
-        flags[at] = v;
-    }
-}
-
-fn put_word(words: &mut [u32], i: u32, v: u32)
-    ensures { words.new ≡ set words.old i v }
-{
-    let at = i as usize;
-    if at < words.len() {
-        words[at] = v;
+    if at < table.len() {
+        table[at] = v;
     }
 }
 
@@ -38,9 +29,9 @@ pub fn put_table(
 {
     match t {
         Table::Same => {}
-        Table::Flags(i, v) => put_flags(flags, i, v),
-        Table::Command(i, v) => put_word(commands, i, v),
-        Table::Payload(i, v) => put_word(payloads, i, v),
-        Table::Output(i, v) => put_word(output, i, v),
+        Table::Flags(i, v) => put(flags, i, v),
+        Table::Command(i, v) => put(commands, i, v),
+        Table::Payload(i, v) => put(payloads, i, v),
+        Table::Output(i, v) => put(output, i, v),
     }
 }

@@ -6,6 +6,10 @@ use mathlib.Core.List.{[]}
 use mathlib.Core.Option.{Option, none, some}
 use lib.Dec.{eqb}
 use borrow.Author.Tests.{eqb-true, eqb-false}
+use Rattle.std.specs.Prelude.{Result, Ok, Err}
+use Rattle.number.specs.declared.Refusal.{Refusal}
+use Rattle.number.specs.Refusals.{number_of, told}
+use Rattle.number.proofs.Refusals.{not_0}
 use Rattle.bank.proofs.Bools.{and-true}
 use Rattle.bank.specs.declared.State.{State}
 use Rattle.model.specs.declared.Call.{Call}
@@ -50,6 +54,14 @@ module _ (d : View → Decision) (s : View) where
   pub served_as : refusals (d s) ≡ true → number (d s) ≡ 0 → effect (d s) ≡ verdict d s
   unfolding verdict
   served_as r h = sym (ap (λ (k : Option ℕ). verdict_by k s (effect (d s))) (none_of (d s) r h))
+
+  -- what code tells by a Result: a refusal, or the effect
+  module _ {T : Type 0} (r : Result T Refusal) (h : told r ≡ number (d s)) where
+    pub refused_err : (why : Refusal) → r ≡ Err why → (unchanged s with_number number_of why) ≡ verdict d s
+    refused_err why e = refused_as (number_of why) (not_0 why) (sym (ap told e) ∙ h)
+
+    pub served_ok : refusals (d s) ≡ true → (x : T) → r ≡ Ok x → effect (d s) ≡ verdict d s
+    served_ok k x e = served_as k (sym h ∙ ap told e)
 
   -- code of one way out: y is what it gives, by its number and whether that is 0
   pub made_row : (y : ℕ → Bool → Effect) (n : ℕ) → refusals (d s) ≡ true → n ≡ number (d s) → y 0 true ≡ effect (d s) → ((m : ℕ) → y m false ≡ (unchanged s with_number m)) → y n (eqb n 0) ≡ verdict d s

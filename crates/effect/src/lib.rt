@@ -3,9 +3,11 @@
 // nothing of where queues lie, and `settle` moves queues and tables by it.
 #![tactic(auto)]
 
-ghost use Rattle.std.specs.Prelude.{◌≡◌, cond, not};
+ghost use Rattle.std.specs.Prelude.{◌≡◌, ℕ, cond, not};
 ghost use Rattle.number.specs.Names as number;
+ghost use Rattle.number.specs.Refusals.{number_of, told_or};
 ghost use Rattle.queues.specs.Each.{each, every};
+ghost use Rattle.bank.specs.Phases.{idle};
 ghost use Rattle.model.specs.View.{Tables};
 ghost use Rattle.model.specs.Decision.{keep, clear, take, push, only, unchanged, ◌with_number◌};
 ghost use Rattle.effect.specs.Ops.{op_of, ops_of};
@@ -13,6 +15,7 @@ ghost use Rattle.effect.specs.Effects.{tables_by, effect_of};
 ghost use Rattle.effect.specs.Seen.{Fronts, seen};
 
 use bank::{Answer, State};
+use number::Refusal;
 use queues::{Five, Queue};
 
 // What happens to a queue.
@@ -51,22 +54,28 @@ pub struct Effect {
 
 // ── Tests that events share ────────────────────────────────────────────────────────────────────────────────────
 
-// The number of an event that runs an open transfer: 5 in reset (`event.reset`), 7 where none is open (`event.open`),
-// then `n`.
-pub fn while_open(held: bool, idle: bool, n: u32) -> u32
-    ensures { result ≡ cond held number.held_in_reset (cond idle number.no_transfer n) }
+// 5 in reset (`event.reset`), then `why` where `fails` holds.
+fn tested(held: bool, fails: bool, why: Refusal) -> Result<(), Refusal>
+    ensures { (n : ℕ) → told_or n result ≡ cond held number.held_in_reset (cond fails (number_of why) n) }
 {
-    let n = bank::select(idle, number::NO_TRANSFER, n);
-    bank::select(held, number::HELD_IN_RESET, n)
+    if held {
+        return Err(Refusal::HeldInReset);
+    }
+    if fails { Err(why) } else { Ok(()) }
 }
 
-// The number of an event that begins where none is open: 5 in reset (`event.reset`), 6 where one is (`event.open`),
-// then `n`.
-pub fn while_idle(held: bool, idle: bool, n: u32) -> u32
-    ensures { result ≡ cond held number.held_in_reset (cond (not idle) number.transfer_open n) }
+// The first tests of an event that runs an open transfer: 5 in reset, 7 where none is open (`event.open`).
+pub fn while_open(st: State) -> Result<(), Refusal>
+    ensures { (n : ℕ) → told_or n result ≡ cond st.control.held number.held_in_reset (cond (idle st.phase) number.no_transfer n) }
 {
-    let m = bank::select(!idle, number::TRANSFER_OPEN, n);
-    bank::select(held, number::HELD_IN_RESET, m)
+    tested(st.control.held, phases::is_idle(st.phase), Refusal::NoTransfer)
+}
+
+// The first tests of an event that begins where none is open: 5 in reset, 6 where one is (`event.open`).
+pub fn while_idle(st: State) -> Result<(), Refusal>
+    ensures { (n : ℕ) → told_or n result ≡ cond st.control.held number.held_in_reset (cond (not (idle st.phase)) number.transfer_open n) }
+{
+    tested(st.control.held, !phases::is_idle(st.phase), Refusal::TransferOpen)
 }
 
 // ── Operations ─────────────────────────────────────────────────────────────────────────────────────────────────
@@ -138,8 +147,8 @@ pub fn done(st: State, value: u32, number: u32, ops: Ops) -> Effect
 }
 
 // A refusal, which changes nothing (`answer.refusal`).
-pub fn refuse(st: State, n: u32) -> Effect
-    ensures { (t : Tables) (f : Fronts) → effect_of result t ≡ (unchanged (seen st t f) with_number n) }
+pub fn refuse(st: State, why: Refusal) -> Effect
+    ensures { (t : Tables) (f : Fronts) → effect_of result t ≡ (unchanged (seen st t f) with_number number_of why) }
 {
-    done(st, 0, n, None)
+    done(st, 0, u32::from(why), None)
 }

@@ -35,10 +35,10 @@ fn ends_other(p: Phase, code: u8) -> bool
 pub fn is_allowed(p: Phase, code: u8) -> bool
     ensures { result ≡ allowed p code }
 {
-    let rest = bank::choose(
+    let rest = bank::select(
         phases::is_assigning(p),
         ends_entdaa(p, code),
         ends_other(p, code),
     );
-    bank::choose(phases::is_unattached(p), code == 8, rest)
+    bank::select(phases::is_unattached(p), code == 8, rest)
 }

@@ -20,8 +20,3 @@ moved_small p h =
     let z = three (ltb t.length.0 4096) (leb t.moved.0 (limit p)) (eqb (t.part % 2 ^ (32 - 8 * part_bytes p)) 0) h in
     below t.moved.0 (limit p) t.length.0 (ltb-true t.length.0 4096 z.0) (leb-true t.moved.0 (limit p) z.1) (capped (assigning p || unattached p) t.length.0)
 
-pub fewer_needed : (need want level : Words) → need ≡ want → need.0 < level.0 → need.0 ≡ min want.0 level.0
-fewer_needed need want level e h = let z : need.0 ≡ want.0 = ap (λ (w : Words). w.0) e in omega arith
-
-pub fewer_there : (need want level : Words) → need ≡ want → level.0 ≤ need.0 → level.0 ≡ min want.0 level.0
-fewer_there need want level e h = let z : need.0 ≡ want.0 = ap (λ (w : Words). w.0) e in omega arith

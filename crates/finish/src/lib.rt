@@ -3,6 +3,7 @@
 #![tactic(auto)]
 
 ghost use Rattle.std.specs.Prelude.{◌≡◌, ◌<◌, ◌≤◌, true};
+ghost use Rattle.number.specs.Refusals.{told};
 ghost use Rattle.bank.specs.Formed.{phase_ok};
 ghost use Rattle.model.specs.View.{Tables};
 ghost use Rattle.model.specs.Commands.{receipt_word};
@@ -12,6 +13,7 @@ ghost use Rattle.effect.specs.Seen.{Fronts, seen};
 
 use bank::{Control, Phase, State, Transfer};
 use effect::Effect;
+use number::Refusal;
 use ring::Words;
 
 // Whether bytes of a read are left that fill no word: that word goes to SDI (`finish.receipt`).
@@ -32,32 +34,27 @@ fn does_remove(p: Phase, code: u8) -> bool
 }
 
 // How many words leave then, of `level` in SDO: as many as the commanded length needs, or all if there are fewer.
-#[tactic(auto, using(crate::proofs::Finishing::fewer_needed, crate::proofs::Finishing::fewer_there))]
 fn removed_words(t: Transfer, level: Words) -> u32
     ensures { result ≡ removed t level.0 }
 {
-    let need = ring::words_for(t.length);
-    if need.0 < level.0 {
-        return need.0;
-    }
-    level.0
+    ring::words_for(t.length).0.min(level.0)
 }
 
-// The number of a finish, 0 where none of its tests holds (`finish.tests`).
+// The tests of a finish (`finish.tests`).
 #[tactic(auto, unfolding(model::specs::Calls::finish))]
-fn finish_number(st: State, code: u8) -> u32
-    ensures { (t : Tables) (f : Fronts) → result ≡ number (finish (seen st t f) code) }
+fn finish_tests(st: State, code: u8) -> Result<(), Refusal>
+    ensures { (t : Tables) (f : Fronts) → told result ≡ number (finish (seen st t f) code) }
 {
-    let p = st.phase;
-    let idle = phases::is_idle(p);
-    let ends = endings::is_allowed(p, code);
-    let pads = is_padded(p);
+    effect::while_open(st)?;
+    if !endings::is_allowed(st.phase, code) {
+        return Err(Refusal::EndingNotAllowed);
+    }
     let k = st.caps;
     let l = st.levels;
-    let full = (k.cmdr.0 <= l.cmdr.0) | (pads & (k.sdi.0 <= l.sdi.0));
-    let n = bank::select(full, number::NO_ROOM, 0);
-    let n = bank::select(!ends, number::ENDING_NOT_ALLOWED, n);
-    effect::while_open(st.control.held, idle, n)
+    if (k.cmdr.0 <= l.cmdr.0) | (is_padded(st.phase) & (k.sdi.0 <= l.sdi.0)) {
+        return Err(Refusal::NoRoom);
+    }
+    Ok(())
 }
 
 // The receipt of a transfer (`receipt.word`).
@@ -73,10 +70,11 @@ fn receipt(code: u8, moved: u32, sync: u8) -> u32
 fn counted(c: Control) -> Control
     ensures { result ≡ receipted c }
 {
-    let mut next = c;
-    next.sync = std::num::wrapping_add_u8(c.sync, 1);
-    next.cmdrpending = true;
-    next
+    Control {
+        sync: c.sync.wrapping_add(1),
+        cmdrpending: true,
+        ..c
+    }
 }
 
 // The open transfer ends with a code; its receipt is the value (`finish.receipt`), and the payload of a write that failed
@@ -85,18 +83,14 @@ pub fn finish(st: State, code: u8) -> Effect
     requires { (phase_ok st.phase ≡ true) × (code ≤ 15) }
     ensures { (t : Tables) (f : Fronts) → effect_of result t ≡ verdict (λ v. finish v code) (seen st t f) }
 {
-    let n = finish_number(st, code);
-    if n != 0 {
-        return effect::refuse(st, n);
+    if let Err(why) = finish_tests(st, code) {
+        return effect::refuse(st, why);
     }
-    let p = st.phase;
-    let t = phases::transfer_of(p);
-    let pads = is_padded(p);
+    let t = phases::transfer_of(st.phase);
     let r = receipt(code, t.moved.0, st.control.sync);
-    let g = st.regs;
-    let c = counted(st.control);
-    let l = st.levels;
-    let n = removed_words(t, l.sdo);
-    let o = effect::receipt_and(r, does_remove(p, code), n, pads, t.part);
-    effect::done(st, r, 0, g, c, Phase::Idle, o)
+    let n = removed_words(t, st.levels.sdo);
+    let o = effect::receipt_and(r, does_remove(st.phase, code), n, is_padded(st.phase), t.part);
+    let phase = Phase::Idle;
+    let control = counted(st.control);
+    effect::done(State { control, phase, ..st }, r, 0, o)
 }

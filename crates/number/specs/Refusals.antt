@@ -40,3 +40,8 @@ number_of WatermarkAboveCapacity = number.watermark_above_capacity
 abbrev pub told : {T : Type 0} → Result T Refusal → ℕ
 told (Ok x) = 0
 told (Err why) = number_of why
+
+-- n where there is no refusal
+abbrev pub told_or : {T : Type 0} → ℕ → Result T Refusal → ℕ
+told_or n (Ok x) = n
+told_or n (Err why) = number_of why

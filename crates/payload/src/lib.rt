@@ -3,6 +3,7 @@
 #![tactic(auto)]
 
 ghost use Rattle.std.specs.Prelude.{◌≡◌, ℕ, true};
+ghost use Rattle.number.specs.Refusals.{told};
 ghost use Rattle.bank.specs.Formed.{phase_ok};
 ghost use Rattle.model.specs.View.{Tables};
 ghost use Rattle.model.specs.Calls.{send, receive};
@@ -11,54 +12,53 @@ ghost use Rattle.effect.specs.Seen.{Fronts, seen};
 
 use bank::{Phase, State};
 use effect::{Effect, Op};
+use number::Refusal;
+use queues::Queue;
 
-// The number of a send, 0 where none of its tests holds (`send.tests`).
+// The tests of a send (`send.tests`).
 #[tactic(auto, unfolding(model::specs::Calls::send))]
-fn send_number(st: State) -> u32
-    ensures { (t : Tables) (f : Fronts) → result ≡ number (send (seen st t f)) }
+fn send_tests(st: State) -> Result<(), Refusal>
+    ensures { (t : Tables) (f : Fronts) → told result ≡ number (send (seen st t f)) }
 {
-    let p = st.phase;
-    let t = phases::transfer_of(p);
-    let starved = (t.moved.0 % 4 == 0) & (st.levels.sdo.0 == 0);
-    payload_bytes::byte_number(
-        st,
-        phases::is_writing(p),
-        bank::select(starved, number::SDO_EMPTY, 0),
-    )
+    payload_bytes::byte_tests(st, phases::is_writing(st.phase))?;
+    let t = phases::transfer_of(st.phase);
+    if (t.moved.0 % 4 == 0) & (st.levels.sdo.0 == 0) {
+        return Err(Refusal::SdoEmpty);
+    }
+    Ok(())
 }
 
 // A byte sent (`send.byte`): the first of a new SDO word, or the next of the part word. `word` is the first of SDO.
 pub fn send(st: State, word: u32) -> Effect
     ensures { (t : Tables) (f : Fronts) → word ≡ f.sdo.first → effect_of result t ≡ verdict send (seen st t f) }
 {
-    let n = send_number(st);
-    if n != 0 {
-        return effect::refuse(st, n);
+    if let Err(why) = send_tests(st) {
+        return effect::refuse(st, why);
     }
-    let p = st.phase;
-    let t = phases::transfer_of(p);
+    let t = phases::transfer_of(st.phase);
     let fresh = t.moved.0 % 4 == 0;
     let w = bank::select(fresh, word, t.part);
     let next = payload_bytes::advance(t, w % 0x1000000 * 0x100);
-    let g = st.regs;
-    let c = st.control;
-    let o = effect::on_sdo(fresh, Op::Take(1));
-    effect::done(st, w / 0x1000000 % 0x100, 0, g, c, Phase::Writing(next), o)
+    let phase = Phase::Writing(next);
+    effect::done(
+        State { phase, ..st },
+        w / 0x1000000 % 0x100,
+        0,
+        effect::on(Queue::Sdo, fresh, Op::Take(1)),
+    )
 }
 
-// The number of a receive, 0 where none of its tests holds (`receive.tests`).
+// The tests of a receive (`receive.tests`).
 #[tactic(auto, unfolding(model::specs::Calls::receive))]
-fn receive_number(st: State) -> u32
-    ensures { (t : Tables) (f : Fronts) (byte : ℕ) → result ≡ number (receive (seen st t f) byte) }
+fn receive_tests(st: State) -> Result<(), Refusal>
+    ensures { (t : Tables) (f : Fronts) (byte : ℕ) → told result ≡ number (receive (seen st t f) byte) }
 {
-    let p = st.phase;
-    let t = phases::transfer_of(p);
-    let full = (t.moved.0 % 4 == 3) & (st.caps.sdi.0 <= st.levels.sdi.0);
-    payload_bytes::byte_number(
-        st,
-        phases::is_reading(p),
-        bank::select(full, number::NO_ROOM, 0),
-    )
+    payload_bytes::byte_tests(st, phases::is_reading(st.phase))?;
+    let t = phases::transfer_of(st.phase);
+    if (t.moved.0 % 4 == 3) & (st.caps.sdi.0 <= st.levels.sdi.0) {
+        return Err(Refusal::NoRoom);
+    }
+    Ok(())
 }
 
 // A byte received (`receive.byte`): with the fourth of a word, the word goes to SDI.
@@ -66,17 +66,18 @@ pub fn receive(st: State, byte: u8) -> Effect
     requires { phase_ok st.phase ≡ true }
     ensures { (t : Tables) (f : Fronts) → effect_of result t ≡ verdict (λ v. receive v byte) (seen st t f) }
 {
-    let n = receive_number(st);
-    if n != 0 {
-        return effect::refuse(st, n);
+    if let Err(why) = receive_tests(st) {
+        return effect::refuse(st, why);
     }
-    let p = st.phase;
-    let t = phases::transfer_of(p);
+    let t = phases::transfer_of(st.phase);
     let fills = t.moved.0 % 4 == 3;
     let w = payload_bytes::gathered(t.part, t.moved.0, byte);
     let next = payload_bytes::advance(t, bank::select(fills, 0, w));
-    let g = st.regs;
-    let c = st.control;
-    let o = effect::on_sdi(fills, Op::Push(w));
-    effect::done(st, 0, 0, g, c, Phase::Reading(next), o)
+    let phase = Phase::Reading(next);
+    effect::done(
+        State { phase, ..st },
+        0,
+        0,
+        effect::on(Queue::Sdi, fills, Op::Push(w)),
+    )
 }

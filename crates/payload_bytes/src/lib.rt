@@ -2,39 +2,47 @@
 // the count of bytes moved, and the place of a byte in its word (`payload.order`).
 #![tactic(auto)]
 
-ghost use Rattle.std.specs.Prelude.{◌≡◌, ◌+◌, ◌-◌, ◌*◌, ◌%◌, ◌^◌, ◌<◌, ◌≤◌};
+ghost use Rattle.std.specs.Prelude.{◌≡◌, ℕ, ◌+◌, ◌-◌, ◌*◌, ◌%◌, ◌^◌, ◌<◌, ◌≤◌};
+ghost use Rattle.number.specs.Refusals.{told_or};
 ghost use Rattle.model.specs.Calls.{advanced};
 ghost use Rattle.payload_bytes.specs.Bytes.{byte_number};
 
 use bank::{State, Transfer};
+use number::Refusal;
+use ring::Bytes;
 
 // The transfer with one byte more moved, and `w` as its part word.
 pub fn advance(t: Transfer, w: u32) -> Transfer
     requires { t.moved.0 < t.length.0 }
     ensures { result ≡ advanced t w }
 {
-    let m = t.moved.0 + 1;
-    let mut next = t;
-    next.moved.0 = m;
-    next.part = w;
-    next
+    Transfer {
+        moved: Bytes(t.moved.0 + 1),
+        part: w,
+        ..t
+    }
 }
 
-// The number of a byte that moves the way of the open transfer where `apt` holds: 5, 7, 20, 10, 11, then `last`.
-pub fn byte_number(st: State, apt: bool, last: u32) -> u32
-    ensures { result ≡ byte_number st.control st.phase apt last }
+// The tests of a byte that moves the way of the open transfer where `apt` holds: 5, 7, 20, 10, 11.
+pub fn byte_tests(st: State, apt: bool) -> Result<(), Refusal>
+    ensures { (last : ℕ) → told_or last result ≡ byte_number st.control st.phase apt last }
 {
-    let p = st.phase;
-    let t = phases::transfer_of(p);
-    let idle = phases::is_idle(p);
-    let absent = phases::is_unattached(p);
-    let n = bank::select(t.length.0 <= t.moved.0, number::LENGTH_REACHED, last);
-    let n = bank::select(!apt, number::NOT_THIS_KIND, n);
-    let n = bank::select(absent, number::NOT_ATTACHED, n);
-    effect::while_open(st.control.held, idle, n)
+    effect::while_open(st)?;
+    if phases::is_unattached(st.phase) {
+        return Err(Refusal::NotAttached);
+    }
+    if !apt {
+        return Err(Refusal::NotThisKind);
+    }
+    let t = phases::transfer_of(st.phase);
+    if t.length.0 <= t.moved.0 {
+        return Err(Refusal::LengthReached);
+    }
+    Ok(())
 }
 
-// The weight of a byte in its word, the first having the highest (`payload.order`).
+// The weight of a byte in its word, the first having the highest (`payload.order`). By selects: where a byte stands is
+// hard to foresee.
 pub fn weight(moved: u32) -> u32
     ensures { (result ≡ 2 ^ (24 - 8 * (moved % 4))) × (result ≤ 0x1000000) × (0 < result) }
 {

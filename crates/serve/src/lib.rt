@@ -4,6 +4,7 @@
 #![tactic(auto)]
 
 ghost use Rattle.std.specs.Prelude.{◌≡◌, length};
+ghost use Rattle.number.specs.Refusals.{told};
 ghost use Rattle.model.specs.Bursts.{decide};
 ghost use Rattle.model.specs.Engine.{step};
 ghost use Rattle.model.specs.Rings.{rings};
@@ -14,6 +15,7 @@ ghost use Rattle.faults.specs.Faults.{fault_number};
 use answer::Next;
 use bank::{Heads, State};
 use model::Call;
+use number::Refusal;
 
 // A call on a bank and a store that passed the two tests.
 fn serve(
@@ -42,14 +44,14 @@ pub fn step_parts(
     payloads: &mut [u32; 16],
     store: &mut [u32],
     output: &mut [u32],
-    fault: u32,
+    fault: Result<(), Refusal>,
     call: Call,
 ) -> Next
-    requires { let m = memory flags commands payloads store output in fault ≡ fault_number (bank_with st h m.tables) (length m.store) }
+    requires { let m = memory flags commands payloads store output in told fault ≡ fault_number (bank_with st h m.tables) (length m.store) }
     ensures { step_of result (left flags commands payloads store output) ≡ step rings (controller_of st h (lent flags commands payloads store output)) call }
 {
-    if fault != 0 {
-        return answer::refuse(st, h, fault);
+    if let Err(why) = fault {
+        return answer::refuse(st, h, why);
     }
     serve(st, h, flags, commands, payloads, store, output, call)
 }

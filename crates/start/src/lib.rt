@@ -2,7 +2,8 @@
 // bursts use too. It knows command words, the state, and the flags of one device.
 #![tactic(auto)]
 
-ghost use Rattle.std.specs.Prelude.{◌≡◌, ◌||◌};
+ghost use Rattle.std.specs.Prelude.{◌≡◌, true, false, cond, not, ◌||◌, eqb};
+ghost use Rattle.number.specs.Refusals.{told};
 ghost use Rattle.bank.specs.Phases.{broadcast};
 ghost use Rattle.bank.specs.Bits.{bit};
 ghost use Rattle.model.specs.View.{Tables};
@@ -14,6 +15,8 @@ ghost use Rattle.start.specs.Word.{command_of};
 
 use bank::{Kind, Phase, State, Transfer};
 use effect::{Effect, Op};
+use number::Refusal;
+use queues::Queue;
 use ring::Bytes;
 
 // The kind of the command with first word `w` and, where it has two, second word `x` (`command.ccc`).
@@ -24,7 +27,7 @@ fn kind_of(two: bool, w: u32, x: u32) -> Kind
     if !two {
         return Kind::Private;
     }
-    if x / 0x80 % 2 == 1 {
+    if bank::bit(7, x) {
         return Kind::Direct;
     }
     Kind::Broadcast
@@ -43,14 +46,13 @@ fn is_entdaa(two: bool, w: u32, x: u32) -> bool
 fn opened_by(two: bool, w: u32, x: u32, attached: bool) -> Transfer
     ensures { result ≡ opened (command_of two w x) attached }
 {
-    let k = kind_of(two, w, x);
     let n = bank::select(is_entdaa(two, w, x), 0, w / 0x100 % 0x1000);
     Transfer {
-        kind: k,
-        header: w / 0x200000 % 2 == 1,
+        kind: kind_of(two, w, x),
+        header: bank::bit(21, w),
         length: Bytes(n),
         moved: Bytes(0),
-        attached: attached,
+        attached,
         part: 0,
     }
 }
@@ -64,7 +66,7 @@ fn begun_by(two: bool, w: u32, x: u32, attached: bool) -> Phase
     if is_entdaa(two, w, x) {
         return Phase::Unrequested(t);
     }
-    if bank::low_bit(w) {
+    if bank::bit(0, w) {
         return Phase::Reading(t);
     }
     Phase::Writing(t)
@@ -74,49 +76,57 @@ fn begun_by(two: bool, w: u32, x: u32, attached: bool) -> Phase
 fn is_attached(k: Kind, flags: u8) -> bool
     ensures { result ≡ (broadcast k || bit 0 flags) }
 {
-    phases::is_broadcast(k) | bank::byte_low_bit(flags)
+    phases::is_broadcast(k) | bank::bit(0, flags as u32)
 }
 
 // The phase that a private command begins, with the flags of its device now.
 pub fn private_phase(w: u32, flags: u8) -> Phase
     ensures { result ≡ begun (Single w) (broadcast (kind_of (Single w)) || bit 0 flags) }
 {
-    let k = kind_of(false, w, 0);
-    let a = is_attached(k, flags);
-    begun_by(false, w, 0, a)
+    let attached = is_attached(kind_of(false, w, 0), flags);
+    begun_by(false, w, 0, attached)
 }
 
-// The number of a start, 0 where none of its tests holds (`start.tests`): `w` and `x` are the first words of CMD.
-#[tactic(auto, unfolding(model::specs::Calls::start))]
-fn start_number(st: State, w: u32, x: u32) -> u32
-    ensures { (t : Tables) (f : Fronts) → w ≡ f.cmd.first → x ≡ f.cmd.second → result ≡ number (start (seen st t f)) }
+// Whether the first command of CMD is there with all its words (9 of `start.tests`).
+fn is_whole(level: u32, two: bool) -> bool
+    ensures { result ≡ cond (eqb level 0) false (cond (eqb level 1) (not two) true) }
 {
-    let p = st.phase;
-    let idle = phases::is_idle(p);
-    let two = w / 0x400000 % 2 == 1;
-    let level = st.levels.cmd.0;
-    let waits = bank::choose(level == 0, false, bank::choose(level == 1, !two, true));
-    let blocked = is_entdaa(two, w, x) & !(st.levels.sdo.0 == 0);
-    let n = bank::select(blocked, number::SDO_NOT_EMPTY, 0);
-    let n = bank::select(!waits, number::NO_COMMAND, n);
-    let n = bank::select(bank::byte_low_bit(st.regs.ops), number::NOT_IN_THIS_MODE, n);
-    effect::while_idle(st.control.held, idle, n)
+    match level {
+        0 => false,
+        1 => !two,
+        _ => true,
+    }
+}
+
+// The tests of a start (`start.tests`): `w` and `x` are the first words of CMD.
+#[tactic(auto, unfolding(model::specs::Calls::start))]
+fn start_tests(st: State, w: u32, x: u32) -> Result<(), Refusal>
+    ensures { (t : Tables) (f : Fronts) → w ≡ f.cmd.first → x ≡ f.cmd.second → told result ≡ number (start (seen st t f)) }
+{
+    effect::while_idle(st)?;
+    if bank::bit(0, st.regs.ops as u32) {
+        return Err(Refusal::NotInThisMode);
+    }
+    let two = bank::bit(22, w);
+    if !is_whole(st.levels.cmd.0, two) {
+        return Err(Refusal::NoCommand);
+    }
+    if is_entdaa(two, w, x) & !(st.levels.sdo.0 == 0) {
+        return Err(Refusal::SdoNotEmpty);
+    }
+    Ok(())
 }
 
 // A start (`start.opens`): `w` and `x` are the first words of CMD, `flags` those of the device that `w` names.
 pub fn start(st: State, w: u32, x: u32, flags: u8) -> Effect
     ensures { (t : Tables) (f : Fronts) → w ≡ f.cmd.first → x ≡ f.cmd.second → flags ≡ flags_of w t → effect_of result t ≡ verdict start (seen st t f) }
 {
-    let n = start_number(st, w, x);
-    if n != 0 {
-        return effect::refuse(st, n);
+    if let Err(why) = start_tests(st, w, x) {
+        return effect::refuse(st, why);
     }
-    let two = w / 0x400000 % 2 == 1;
-    let k = kind_of(two, w, x);
-    let a = is_attached(k, flags);
-    let p = begun_by(two, w, x, a);
-    let g = st.regs;
-    let c = st.control;
-    let o = effect::on_cmd(true, Op::Take(bank::select(two, 2, 1)));
-    effect::done(st, w, 0, g, c, p, o)
+    let two = bank::bit(22, w);
+    let attached = is_attached(kind_of(two, w, x), flags);
+    let phase = begun_by(two, w, x, attached);
+    let words = bank::select(two, 2, 1);
+    effect::done(State { phase, ..st }, w, 0, effect::on(Queue::Cmd, true, Op::Take(words)))
 }

@@ -2,7 +2,8 @@
 // state and the flags of that device.
 #![tactic(auto)]
 
-ghost use Rattle.std.specs.Prelude.{◌≡◌, ℕ, if◌then◌else◌, slice_index};
+ghost use Rattle.std.specs.Prelude.{◌≡◌, ℕ, slice_index};
+ghost use Rattle.number.specs.Refusals.{told};
 ghost use Rattle.model.specs.View.{Tables};
 ghost use Rattle.model.specs.Commands.{entry_word};
 ghost use Rattle.model.specs.Calls.{interrupted, interrupt};
@@ -11,30 +12,27 @@ ghost use Rattle.effect.specs.Seen.{Fronts, seen};
 
 use bank::{Control, State};
 use effect::{Effect, Op};
+use number::Refusal;
+use queues::Queue;
 
-// The number of an interrupt request from a device with the flags `f`, 0 where none of its tests holds
-// (`interrupt.tests`).
+// The tests of an interrupt request from a device with the flags `f` (`interrupt.tests`).
 #[tactic(auto, unfolding(model::specs::Calls::interrupt))]
-fn interrupt_number(st: State, f: u8) -> u32
-    ensures { (t : Tables) (x : Fronts) (address byte : ℕ) → f ≡ slice_index t.flags address → result ≡ number (interrupt (seen st t x) address byte) }
+fn interrupt_tests(st: State, f: u8) -> Result<(), Refusal>
+    ensures { (t : Tables) (x : Fronts) (address byte : ℕ) → f ≡ slice_index t.flags address → told result ≡ number (interrupt (seen st t x) address byte) }
 {
-    let p = st.phase;
-    let config = st.regs.config;
-    let idle = phases::is_idle(p);
-    let listens = config / 2 % 2 == 1;
-    let admits = bank::byte_low_bit(config) & bank::byte_low_bit(f) & (f / 2 % 2 == 1);
-    let full = st.caps.ibi.0 <= st.levels.ibi.0;
-    let n = bank::select(full, number::NO_ROOM, 0);
-    let n = bank::select(!admits, number::NOT_ACKNOWLEDGED, n);
-    let n = bank::select(!listens, number::NOT_HEARD, n);
-    effect::while_idle(st.control.held, idle, n)
-}
-
-// The data byte of an entry, 0 where the device sends none (`interrupt.entry`).
-fn data_byte(sends: bool, byte: u8) -> u8
-    ensures { result ≡ (if sends then byte else 0) }
-{
-    if sends { byte } else { 0 }
+    effect::while_idle(st)?;
+    let config = st.regs.config as u32;
+    let flags = f as u32;
+    if !bank::bit(1, config) {
+        return Err(Refusal::NotHeard);
+    }
+    if !(bank::bit(0, config) & bank::bit(0, flags) & bank::bit(1, flags)) {
+        return Err(Refusal::NotAcknowledged);
+    }
+    if st.caps.ibi.0 <= st.levels.ibi.0 {
+        return Err(Refusal::NoRoom);
+    }
+    Ok(())
 }
 
 // The entry of an interrupt (`entry.word`).
@@ -49,25 +47,23 @@ fn entry(address: u8, byte: u8, sync: u8) -> u32
 fn accept(c: Control) -> Control
     ensures { result ≡ interrupted c }
 {
-    let mut next = c;
-    next.ibisync = std::num::wrapping_add_u8(c.ibisync, 1);
-    next.ibipending = true;
-    next
+    Control {
+        ibisync: c.ibisync.wrapping_add(1),
+        ibipending: true,
+        ..c
+    }
 }
 
-// An interrupt request of the device at an address, which has the flags `f`; its entry is the value
-// (`interrupt.entry`).
+// An interrupt request of the device at an address, which has the flags `f`; its entry, with the data byte of a device
+// that sends one, is the value (`interrupt.entry`).
 pub fn interrupt(st: State, f: u8, address: u8, byte: u8) -> Effect
     ensures { (t : Tables) (x : Fronts) → f ≡ slice_index t.flags address → effect_of result t ≡ verdict (λ v. interrupt v address byte) (seen st t x) }
 {
-    let n = interrupt_number(st, f);
-    if n != 0 {
-        return effect::refuse(st, n);
+    if let Err(why) = interrupt_tests(st, f) {
+        return effect::refuse(st, why);
     }
-    let w = entry(address, data_byte(f / 4 % 2 == 1, byte), st.control.ibisync);
-    let g = st.regs;
-    let c = accept(st.control);
-    let p = st.phase;
-    let o = effect::on_ibi(true, Op::Push(w));
-    effect::done(st, w, 0, g, c, p, o)
+    let data = bank::select(bank::bit(2, f as u32), byte, 0);
+    let w = entry(address, data, st.control.ibisync);
+    let control = accept(st.control);
+    effect::done(State { control, ..st }, w, 0, effect::on(Queue::Ibi, true, Op::Push(w)))
 }

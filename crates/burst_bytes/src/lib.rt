@@ -3,6 +3,7 @@
 #![tactic(auto)]
 
 ghost use Rattle.std.specs.Prelude.{◌≡◌, true, List, ℕ, ◌-◌, ◌≤◌, length, get_or};
+ghost use Rattle.number.specs.Refusals.{told};
 ghost use Rattle.bank.specs.Bursts.{writes_in, bursting, place};
 ghost use Rattle.bank.specs.Formed.{open_ok};
 ghost use Rattle.model.specs.Bursts.{output_first, burst_send, burst_receive};
@@ -12,6 +13,7 @@ ghost use Rattle.effect.specs.Seen.{Fronts, seen};
 
 use bank::{Control, Phase, State};
 use effect::Effect;
+use number::Refusal;
 
 // The offload data word of the open write, told by the writes before it (`burst.bytes`).
 #[tactic(auto, unfolding(bank::specs::Bursts::reads_in))]
@@ -27,19 +29,14 @@ fn data_word(c: Control, commands: &[u32; 16], payloads: &[u32; 16]) -> u32
     payloads[k - burst_commands::reads_in(commands, k)]
 }
 
-// The number of a send, 0 where none of its tests holds: 13 for the output, then `send.tests` without 12.
-#[tactic(auto, unfolding(model::specs::Bursts::burst_send), using(trigger::proofs::Within::short_is))]
-fn send_number(st: State, commands: &[u32; 16], len: usize) -> u32
+// The tests of a send: 13 for the output, then `send.tests` without 12.
+#[tactic(auto, unfolding(model::specs::Bursts::burst_send, model::specs::Bursts::short_in_burst))]
+fn send_tests(st: State, commands: &[u32; 16], len: usize) -> Result<(), Refusal>
     requires { bursting st.control ≡ true }
-    ensures { (a p o : List ℕ) (f : Fronts) → length o ≡ len → (let v = seen st (tables a commands.now p o) f in result ≡ number (output_first v (burst_send v))) }
+    ensures { (a p o : List ℕ) (f : Fronts) → length o ≡ len → (let v = seen st (tables a commands.now p o) f in told result ≡ number (output_first v (burst_send v))) }
 {
-    let p = st.phase;
-    let n = payload_bytes::byte_number(st, phases::is_writing(p), 0);
-    bank::select(
-        trigger::is_output_short(st.regs, commands, len),
-        number::NO_ROOM,
-        n,
-    )
+    trigger::output_tests(st.regs, commands, len)?;
+    payload_bytes::byte_tests(st, phases::is_writing(st.phase))
 }
 
 // A byte sent: of the data word, as many places from its top as bytes have moved.
@@ -47,34 +44,24 @@ pub fn send(st: State, commands: &[u32; 16], payloads: &[u32; 16], len: usize) -
     requires { (bursting st.control ≡ true) × (open_ok st.control st.regs st.phase commands.now ≡ true) }
     ensures { (a o : List ℕ) (f : Fronts) → length o ≡ len → (let t = tables a commands.now payloads.now o in effect_of result t ≡ verdict (λ v. output_first v (burst_send v)) (seen st t f)) }
 {
-    let n = send_number(st, commands, len);
-    if n != 0 {
-        return effect::refuse(st, n);
+    if let Err(why) = send_tests(st, commands, len) {
+        return effect::refuse(st, why);
     }
-    let p = st.phase;
-    let t = phases::transfer_of(p);
+    let t = phases::transfer_of(st.phase);
     let w = data_word(st.control, commands, payloads);
     let byte = w / payload_bytes::weight(t.moved.0) % 0x100;
-    let next = payload_bytes::advance(t, 0);
-    let g = st.regs;
-    let c = st.control;
-    let o = effect::none();
-    effect::done(st, byte, 0, g, c, Phase::Writing(next), o)
+    let phase = Phase::Writing(payload_bytes::advance(t, 0));
+    effect::done(State { phase, ..st }, byte, 0, None)
 }
 
-// The number of a receive, 0 where none of its tests holds: 13 for the output, then `receive.tests` without 13.
-#[tactic(auto, unfolding(model::specs::Bursts::burst_receive), using(trigger::proofs::Within::short_is))]
-fn receive_number(st: State, commands: &[u32; 16], len: usize) -> u32
+// The tests of a receive: 13 for the output, then `receive.tests` without 13.
+#[tactic(auto, unfolding(model::specs::Bursts::burst_receive, model::specs::Bursts::short_in_burst))]
+fn receive_tests(st: State, commands: &[u32; 16], len: usize) -> Result<(), Refusal>
     requires { bursting st.control ≡ true }
-    ensures { (a p o : List ℕ) (f : Fronts) (byte : ℕ) → length o ≡ len → (let v = seen st (tables a commands.now p o) f in result ≡ number (output_first v (burst_receive v byte))) }
+    ensures { (a p o : List ℕ) (f : Fronts) (byte : ℕ) → length o ≡ len → (let v = seen st (tables a commands.now p o) f in told result ≡ number (output_first v (burst_receive v byte))) }
 {
-    let p = st.phase;
-    let n = payload_bytes::byte_number(st, phases::is_reading(p), 0);
-    bank::select(
-        trigger::is_output_short(st.regs, commands, len),
-        number::NO_ROOM,
-        n,
-    )
+    trigger::output_tests(st.regs, commands, len)?;
+    payload_bytes::byte_tests(st, phases::is_reading(st.phase))
 }
 
 // A byte received: it stays in the part word until the finish.
@@ -82,16 +69,11 @@ pub fn receive(st: State, commands: &[u32; 16], len: usize, byte: u8) -> Effect
     requires { (bursting st.control ≡ true) × (open_ok st.control st.regs st.phase commands.now ≡ true) }
     ensures { (a p o : List ℕ) (f : Fronts) → length o ≡ len → (let t = tables a commands.now p o in effect_of result t ≡ verdict (λ v. output_first v (burst_receive v byte)) (seen st t f)) }
 {
-    let n = receive_number(st, commands, len);
-    if n != 0 {
-        return effect::refuse(st, n);
+    if let Err(why) = receive_tests(st, commands, len) {
+        return effect::refuse(st, why);
     }
-    let p = st.phase;
-    let t = phases::transfer_of(p);
+    let t = phases::transfer_of(st.phase);
     let w = payload_bytes::gathered(t.part, t.moved.0, byte);
-    let next = payload_bytes::advance(t, w);
-    let g = st.regs;
-    let c = st.control;
-    let o = effect::none();
-    effect::done(st, 0, 0, g, c, Phase::Reading(next), o)
+    let phase = Phase::Reading(payload_bytes::advance(t, w));
+    effect::done(State { phase, ..st }, 0, 0, None)
 }

@@ -3,6 +3,7 @@
 #![tactic(auto)]
 
 ghost use Rattle.std.specs.Prelude.{◌≡◌, true, cond, ◌||◌, List, ℕ, ◌+◌, ◌-◌, ◌≤◌, length, get_or};
+ghost use Rattle.number.specs.Refusals.{told};
 ghost use Rattle.bank.specs.declared.Phase.TheVariants.{Idle};
 ghost use Rattle.bank.specs.Bits.{bit, bits};
 ghost use Rattle.bank.specs.Phases.{broadcast};
@@ -16,23 +17,20 @@ ghost use Rattle.effect.specs.Seen.{Fronts, seen};
 
 use bank::{Phase, State};
 use effect::{Effect, Table};
+use number::Refusal;
 
-// The number of a finish, 0 where none of its tests holds: 13 for the output, then 5, 7 and 14 of `finish.tests`.
-#[tactic(auto, unfolding(model::specs::Bursts::burst_finish), using(trigger::proofs::Within::short_is))]
-fn finish_number(st: State, commands: &[u32; 16], len: usize, code: u8) -> u32
+// The tests of a finish: 13 for the output, then 5, 7 and 14 of `finish.tests`.
+#[tactic(auto, unfolding(model::specs::Bursts::burst_finish, model::specs::Bursts::short_in_burst))]
+fn finish_tests(st: State, commands: &[u32; 16], len: usize, code: u8) -> Result<(), Refusal>
     requires { bursting st.control ≡ true }
-    ensures { (a p o : List ℕ) (f : Fronts) → length o ≡ len → (let v = seen st (tables a commands.now p o) f in result ≡ number (output_first v (burst_finish v code))) }
+    ensures { (a p o : List ℕ) (f : Fronts) → length o ≡ len → (let v = seen st (tables a commands.now p o) f in told result ≡ number (output_first v (burst_finish v code))) }
 {
-    let p = st.phase;
-    let idle = phases::is_idle(p);
-    let ends = endings::is_allowed(p, code);
-    let n = bank::select(!ends, number::ENDING_NOT_ALLOWED, 0);
-    let n = effect::while_open(st.control.held, idle, n);
-    bank::select(
-        trigger::is_output_short(st.regs, commands, len),
-        number::NO_ROOM,
-        n,
-    )
+    trigger::output_tests(st.regs, commands, len)?;
+    effect::while_open(st)?;
+    if !endings::is_allowed(st.phase, code) {
+        return Err(Refusal::EndingNotAllowed);
+    }
+    Ok(())
 }
 
 // Where the burst stands after the transfer of command number `n`, counted from 1.
@@ -60,22 +58,17 @@ pub fn finish(st: State, flags: &[u8; 128], commands: &[u32; 16], len: usize, co
     requires { (bursting st.control ≡ true) × (open_ok st.control st.regs st.phase commands.now ≡ true) }
     ensures { (p o : List ℕ) (f : Fronts) → length o ≡ len → (let t = tables flags.now commands.now p o in effect_of result t ≡ verdict (λ v. output_first v (burst_finish v code)) (seen st t f)) }
 {
-    let n = finish_number(st, commands, len, code);
-    if n != 0 {
-        return effect::refuse(st, n);
+    if let Err(why) = finish_tests(st, commands, len, code) {
+        return effect::refuse(st, why);
     }
-    let p = st.phase;
-    let t = phases::transfer_of(p);
-    let reads = phases::is_reading(p);
+    let t = phases::transfer_of(st.phase);
     let k = st.control.burst as usize;
     let passed = k - 1;
     let place = burst_commands::reads_in(commands, passed) as u32;
     let last = burst_commands::span_of(st.regs) <= k;
     let w = commands[k];
-    let next = next_phase(last, flags, w);
-    let g = st.regs;
-    let c = trigger::burst_at(st.control, after(last, st.control.burst));
-    let o = effect::none();
-    let d = effect::table_if(reads, Table::Output(place, t.part));
-    effect::done_with(st, 0, 0, g, c, next, o, d)
+    let phase = next_phase(last, flags, w);
+    let control = trigger::burst_at(st.control, after(last, st.control.burst));
+    let word = effect::table_if(phases::is_reading(st.phase), Table::Output(place, t.part));
+    effect::done_with(State { control, phase, ..st }, 0, 0, None, word)
 }

@@ -2,7 +2,9 @@
 // share with it: the test of the output, and where a burst stands. It knows the state and the tables.
 #![tactic(auto)]
 
-ghost use Rattle.std.specs.Prelude.{◌≡◌, List, ℕ, ltb, length};
+ghost use Rattle.std.specs.Prelude.{◌≡◌, cond, List, ℕ, ltb, length};
+ghost use Rattle.number.specs.Names as number;
+ghost use Rattle.number.specs.Refusals.{told, told_or};
 ghost use Rattle.bank.specs.Bursts.{span, reads_in};
 ghost use Rattle.model.specs.Bursts.{burst_at, trigger};
 ghost use Rattle.model.specs.View.{tables};
@@ -11,53 +13,55 @@ ghost use Rattle.effect.specs.Seen.{Fronts, seen};
 
 use bank::{Control, Regs, State};
 use effect::Effect;
+use number::Refusal;
 
-// Whether an output of `len` words has fewer than the burst has reads (`burst.output`).
-pub fn is_output_short(g: Regs, commands: &[u32; 16], len: usize) -> bool
-    ensures { result ≡ ltb len (reads_in (span g) commands.now) }
+// The test of the output: 13 where its `len` words are fewer than the reads of the burst (`burst.output`).
+pub fn output_tests(g: Regs, commands: &[u32; 16], len: usize) -> Result<(), Refusal>
+    ensures { (n : ℕ) → told_or n result ≡ cond (ltb len (reads_in (span g) commands.now)) number.no_room n }
 {
-    len < burst_commands::reads_in(commands, burst_commands::span_of(g))
+    if len < burst_commands::reads_in(commands, burst_commands::span_of(g)) {
+        Err(Refusal::NoRoom)
+    } else {
+        Ok(())
+    }
 }
 
 // The control bits where the burst stands at command `n`, counted from 1; 0 closes it.
 pub fn burst_at(c: Control, n: u8) -> Control
     ensures { result ≡ burst_at n c }
 {
-    let mut next = c;
-    next.burst = n;
-    next
+    Control { burst: n, ..c }
 }
 
-// The number of a trigger, 0 where none of its tests holds (`trigger.tests`).
+// The tests of a trigger (`trigger.tests`).
 #[tactic(auto, unfolding(model::specs::Bursts::trigger))]
-fn trigger_number(st: State, commands: &[u32; 16], len: usize) -> u32
-    ensures { (a p o : List ℕ) (f : Fronts) → length o ≡ len → result ≡ number (trigger (seen st (tables a commands.now p o) f)) }
+fn trigger_tests(st: State, commands: &[u32; 16], len: usize) -> Result<(), Refusal>
+    ensures { (a p o : List ℕ) (f : Fronts) → length o ≡ len → told result ≡ number (trigger (seen st (tables a commands.now p o) f)) }
 {
-    let p = st.phase;
-    let idle = phases::is_idle(p);
+    effect::while_idle(st)?;
+    if !burst_commands::is_offload(st.regs) {
+        return Err(Refusal::NotInThisMode);
+    }
     let span = burst_commands::span_of(st.regs);
-    let runs = burst_commands::all_carried(commands, span);
-    let n = bank::select(is_output_short(st.regs, commands, len), number::NO_ROOM, 0);
-    let n = bank::select(!runs, number::NOT_CARRIED, n);
-    let n = bank::select(span == 0, number::BURST_HAS_NO_COMMANDS, n);
-    let offload = burst_commands::is_offload(st.regs);
-    let n = bank::select(!offload, number::NOT_IN_THIS_MODE, n);
-    effect::while_idle(st.control.held, idle, n)
+    if span == 0 {
+        return Err(Refusal::BurstHasNoCommands);
+    }
+    if !burst_commands::all_carried(commands, span) {
+        return Err(Refusal::NotCarried);
+    }
+    output_tests(st.regs, commands, len)
 }
 
 // A burst begins with the transfer of its first command (`trigger.opens`).
 pub fn trigger(st: State, flags: &[u8; 128], commands: &[u32; 16], len: usize) -> Effect
     ensures { (p o : List ℕ) (f : Fronts) → length o ≡ len → (let t = tables flags.now commands.now p o in effect_of result t ≡ verdict trigger (seen st t f)) }
 {
-    let n = trigger_number(st, commands, len);
-    if n != 0 {
-        return effect::refuse(st, n);
+    if let Err(why) = trigger_tests(st, commands, len) {
+        return effect::refuse(st, why);
     }
     let w = commands[0];
     let at = (w / 2 % 0x80) as usize;
-    let p = start::private_phase(w, flags[at]);
-    let g = st.regs;
-    let c = burst_at(st.control, 1);
-    let o = effect::none();
-    effect::done(st, 0, 0, g, c, p, o)
+    let phase = start::private_phase(w, flags[at]);
+    let control = burst_at(st.control, 1);
+    effect::done(State { control, phase, ..st }, 0, 0, None)
 }

@@ -2,9 +2,10 @@
 // (`burst.events`).
 #![tactic(auto)]
 
-ghost use Rattle.std.specs.Prelude.{◌≡◌, true, false, cond, List, ℕ, length};
+ghost use Rattle.std.specs.Prelude.{◌≡◌, true, false, cond, List, ℕ, ltb, length};
 ghost use Rattle.number.specs.Names as number;
-ghost use Rattle.bank.specs.Bursts.{bursting};
+ghost use Rattle.number.specs.Refusals.{number_of};
+ghost use Rattle.bank.specs.Bursts.{span, reads_in, bursting};
 ghost use Rattle.bank.specs.Formed.{open_ok};
 ghost use Rattle.model.specs.View.{Tables};
 ghost use Rattle.model.specs.Decision.{unchanged, ◌with_number◌};
@@ -17,14 +18,18 @@ ghost use Rattle.offload.specs.Lent.{tables_lent};
 use bank::State;
 use effect::Effect;
 use model::Call;
+use number::Refusal;
 
 // An event that an open burst refuses: with 13 where the output is too short (`burst.output`), else 5 in reset, else
-// `n`. Small, so that it is inlined everywhere: an effect that a callee writes through a pointer stays in memory.
-pub fn bar(st: State, lacks: bool, n: u32) -> Effect
-    ensures { (t : Tables) (f : Fronts) → (let v = seen st t f in effect_of result t ≡ (unchanged v with_number cond lacks number.no_room (cond st.control.held number.held_in_reset n))) }
+// `why`. Small, so that it is inlined everywhere: an effect that a callee writes through a pointer stays in memory.
+pub fn bar(st: State, commands: &[u32; 16], len: usize, why: Refusal) -> Effect
+    ensures { (t : Tables) (f : Fronts) → (let v = seen st t f in effect_of result t ≡ (unchanged v with_number cond (ltb len (reads_in (span st.regs) commands.now)) number.no_room (cond st.control.held number.held_in_reset (number_of why)))) }
 {
-    let m = bank::select(st.control.held, number::HELD_IN_RESET, n);
-    effect::refuse(st, bank::select(lacks, number::NO_ROOM, m))
+    let first = match trigger::output_tests(st.regs, commands, len) {
+        Err(short) => short,
+        Ok(()) => bank::select(st.control.held, Refusal::HeldInReset, why),
+    };
+    effect::refuse(st, first)
 }
 
 // Any event that passes 18. What is given for an access is not promised: none comes here.
@@ -39,17 +44,15 @@ pub fn event(
     requires { (bursting st.control ≡ true) × (open_ok st.control st.regs st.phase commands.now ≡ true) }
     ensures { (o : List ℕ) (f : Fronts) → length o ≡ len → is_access call ≡ false → misfit call ≡ false → (let t = tables_lent flags commands payloads o in effect_of result t ≡ verdict (λ v. decide v call) (seen st t f)) }
 {
-    let lacks = trigger::is_output_short(st.regs, commands, len);
     match call {
-        Call::Read(_) => effect::refuse(st, number::NO_ROOM),
-        Call::Write(_, _) => effect::refuse(st, number::NO_ROOM),
-        Call::Start => bar(st, lacks, number::TRANSFER_OPEN),
+        Call::Read(_) | Call::Write(_, _) => effect::refuse(st, Refusal::NoRoom),
+        Call::Start => bar(st, commands, len, Refusal::TransferOpen),
         Call::Send => burst_bytes::send(st, commands, payloads, len),
         Call::Receive(byte) => burst_bytes::receive(st, commands, len, byte),
         Call::Finish(code) => burst_finish::finish(st, flags, commands, len, code),
-        Call::Interrupt(_, _) => bar(st, lacks, number::TRANSFER_OPEN),
-        Call::Request(_, _) => bar(st, lacks, number::NOT_THIS_KIND),
-        Call::Take => bar(st, lacks, number::NOT_THIS_KIND),
-        Call::Trigger => bar(st, lacks, number::TRANSFER_OPEN),
+        Call::Interrupt(_, _) => bar(st, commands, len, Refusal::TransferOpen),
+        Call::Request(_, _) => bar(st, commands, len, Refusal::NotThisKind),
+        Call::Take => bar(st, commands, len, Refusal::NotThisKind),
+        Call::Trigger => bar(st, commands, len, Refusal::TransferOpen),
     }
 }

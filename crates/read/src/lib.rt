@@ -10,6 +10,7 @@ ghost use Rattle.effect.specs.Seen.{Fronts, seen, taken_by};
 
 use bank::State;
 use effect::Effect;
+use number::Refusal;
 use queues::Queue;
 use read_rows::show;
 use registers::Register;
@@ -56,6 +57,6 @@ pub fn read(
         Register::Watermark(q) => show(st, g.marks.of(q).0),
         Register::OffloadCmd(i) => show(st, bank::entry_at(commands, i as usize, 0)),
         Register::OffloadSdo(i) => show(st, bank::entry_at(payloads, i as usize, 0)),
-        Register::Unmapped => effect::refuse(st, number::NO_REGISTER),
+        Register::Unmapped => effect::refuse(st, Refusal::NoRegister),
     }
 }

@@ -12,6 +12,7 @@ ghost use Rattle.effect.specs.Seen.{Fronts, seen};
 
 use bank::{Control, State};
 use effect::{Effect, Op};
+use number::Refusal;
 use queues::Queue;
 
 // A read that changes nothing (`map.reads`).
@@ -25,7 +26,7 @@ pub fn show(st: State, value: u32) -> Effect
 fn show_again(st: State, latest: u32) -> Effect
     ensures { (t : Tables) (f : Fronts) → effect_of result t ≡ (unchanged (seen st t f) with_value latest with_number number.empty) }
 {
-    effect::done(st, latest, number::EMPTY, None)
+    effect::done(st, latest, u32::from(Refusal::Empty), None)
 }
 
 // The word last read from a queue.

@@ -10,6 +10,7 @@ ghost use Rattle.effect.specs.Seen.{Fronts, seen};
 
 use bank::{Regs, State};
 use effect::Effect;
+use number::Refusal;
 use queues::Queue;
 use ring::Words;
 
@@ -21,7 +22,7 @@ pub fn write_watermark(st: State, q: Queue, x: u32) -> Effect
     let low = x % 0x10000;
     let cap = st.caps.of(q);
     if cap.0 < low {
-        return effect::refuse(st, number::WATERMARK_ABOVE_CAPACITY);
+        return effect::refuse(st, Refusal::WatermarkAboveCapacity);
     }
     let regs = Regs {
         marks: st.regs.marks.with(q, Words(low)),

@@ -20,7 +20,7 @@ returns-in-Start c = λ o f n i m.
     let t = tables a.flags.now ws a.payloads.now o in
     let s = seen st t f in
     let z = in_burst st.control st.regs st.phase ws c.requires.0 c.requires.1 in
-    let lacks = c.is_output_short-lacks.ensures ∙ short_is st a.flags.now ws a.payloads.now o f a.len c.requires.0 n in
+    let lacks = short_is st a.flags.now ws a.payloads.now o f a.len c.requires.0 n in
     called s _ _ _ c.in-Start.is (c.bar.ensures t f ∙ ap (λ (b : Bool). unchanged s with_number cond b 13 (cond st.control.held 5 6)) lacks ∙ bars_start s z.0)
 
 pub returns-in-Send : goal.returns-in-Send
@@ -60,7 +60,7 @@ returns-in-Interrupt c = λ o f n i m.
     let t = tables a.flags.now ws a.payloads.now o in
     let s = seen st t f in
     let z = in_burst st.control st.regs st.phase ws c.requires.0 c.requires.1 in
-    let lacks = c.is_output_short-lacks.ensures ∙ short_is st a.flags.now ws a.payloads.now o f a.len c.requires.0 n in
+    let lacks = short_is st a.flags.now ws a.payloads.now o f a.len c.requires.0 n in
     let d = c.in-Interrupt.field-0 in
     let k = c.in-Interrupt.field-1 in
     let e = c.bar-in-Interrupt.ensures t f ∙ ap (λ (b : Bool). unchanged s with_number cond b 13 (cond st.control.held 5 6)) lacks ∙ bars_interrupt s z.0 d k in
@@ -74,7 +74,7 @@ returns-in-Request c = λ o f n i m.
     let t = tables a.flags.now ws a.payloads.now o in
     let s = seen st t f in
     let z = in_burst st.control st.regs st.phase ws c.requires.0 c.requires.1 in
-    let lacks = c.is_output_short-lacks.ensures ∙ short_is st a.flags.now ws a.payloads.now o f a.len c.requires.0 n in
+    let lacks = short_is st a.flags.now ws a.payloads.now o f a.len c.requires.0 n in
     called s _ _ _ c.in-Request.is (c.bar-in-Request.ensures t f ∙ ap (λ (b : Bool). unchanged s with_number cond b 13 (cond st.control.held 5 10)) lacks ∙ bars_request s z.0 z.1 _ _)
 
 pub returns-in-Take : goal.returns-in-Take
@@ -85,7 +85,7 @@ returns-in-Take c = λ o f n i m.
     let t = tables a.flags.now ws a.payloads.now o in
     let s = seen st t f in
     let z = in_burst st.control st.regs st.phase ws c.requires.0 c.requires.1 in
-    let lacks = c.is_output_short-lacks.ensures ∙ short_is st a.flags.now ws a.payloads.now o f a.len c.requires.0 n in
+    let lacks = short_is st a.flags.now ws a.payloads.now o f a.len c.requires.0 n in
     called s _ _ _ c.in-Take.is (c.bar-in-Take.ensures t f ∙ ap (λ (b : Bool). unchanged s with_number cond b 13 (cond st.control.held 5 10)) lacks ∙ bars_take s z.0 z.1)
 
 pub returns-in-Trigger : goal.returns-in-Trigger
@@ -96,5 +96,5 @@ returns-in-Trigger c = λ o f n i m.
     let t = tables a.flags.now ws a.payloads.now o in
     let s = seen st t f in
     let z = in_burst st.control st.regs st.phase ws c.requires.0 c.requires.1 in
-    let lacks = c.is_output_short-lacks.ensures ∙ short_is st a.flags.now ws a.payloads.now o f a.len c.requires.0 n in
+    let lacks = short_is st a.flags.now ws a.payloads.now o f a.len c.requires.0 n in
     called s _ _ _ c.in-Trigger.is (c.bar-in-Trigger.ensures t f ∙ ap (λ (b : Bool). unchanged s with_number cond b 13 (cond st.control.held 5 6)) lacks ∙ bars_trigger s z.0)

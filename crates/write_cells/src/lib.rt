@@ -3,23 +3,25 @@
 #![tactic(auto)]
 
 ghost use Rattle.std.specs.Prelude.{◌≡◌, cond, ◌%◌, ◌^◌, eqb};
+ghost use Rattle.number.specs.Refusals.{told};
 ghost use Rattle.registers.specs.declared.Register.TheVariants.{Scratch, IrqMask, Ops, IbiConfig, DevChar, OffloadCmd, OffloadSdo};
 ghost use Rattle.bank.specs.Bits.{word_if};
 ghost use Rattle.bank.specs.Bursts.{bursting};
 ghost use Rattle.model.specs.View.{Tables};
-ghost use Rattle.model.specs.Decision.{keep_all, unchanged, ◌with_number◌, ◌with_regs◌};
+ghost use Rattle.model.specs.Decision.{keep_all, unchanged, ◌with_regs◌};
 ghost use Rattle.model.specs.Registers.{row, write};
 ghost use Rattle.effect.specs.Effects.{tables_by, effect_of, verdict};
 ghost use Rattle.effect.specs.Seen.{Fronts, seen};
 
 use bank::{Control, Regs, State};
 use effect::{Effect, Table};
+use number::Refusal;
 
-// A write that changes no more than the registers, with its number.
-fn put_regs(st: State, regs: Regs, n: u32) -> Effect
-    ensures { (t : Tables) (f : Fronts) → effect_of result t ≡ (unchanged (seen st t f) with_number n with_regs regs) }
+// A write that changes no more than the registers.
+fn put_regs(st: State, regs: Regs) -> Effect
+    ensures { (t : Tables) (f : Fronts) → effect_of result t ≡ (unchanged (seen st t f) with_regs regs) }
 {
-    effect::done(State { regs, ..st }, 0, n, None)
+    effect::done(State { regs, ..st }, 0, 0, None)
 }
 
 // SCRATCH (`scratch.keeps`).
@@ -28,7 +30,7 @@ pub fn write_scratch(st: State, x: u32) -> Effect
     ensures { (t : Tables) (f : Fronts) → effect_of result t ≡ verdict (λ v. write (row Scratch) v x) (seen st t f) }
 {
     let regs = Regs { scratch: x, ..st.regs };
-    put_regs(st, regs, 0)
+    put_regs(st, regs)
 }
 
 // IRQ_MASK (`mask.keeps`).
@@ -37,7 +39,7 @@ pub fn write_mask(st: State, x: u32) -> Effect
     ensures { (t : Tables) (f : Fronts) → effect_of result t ≡ verdict (λ v. write (row IrqMask) v x) (seen st t f) }
 {
     let regs = Regs { mask: (x % 0x100) as u8, ..st.regs };
-    put_regs(st, regs, 0)
+    put_regs(st, regs)
 }
 
 // IBI_CONFIG (`ibi-config.keeps`).
@@ -46,30 +48,29 @@ pub fn write_config(st: State, x: u32) -> Effect
     ensures { (t : Tables) (f : Fronts) → effect_of result t ≡ verdict (λ v. write (row IbiConfig) v x) (seen st t f) }
 {
     let regs = Regs { config: (x % 4) as u8, ..st.regs };
-    put_regs(st, regs, 0)
+    put_regs(st, regs)
 }
 
-// The number of a write to OPS or an offload memory: 6 while a burst is open, which runs by these (`burst.holds`).
-fn burst_number(c: Control) -> u32
-    ensures { result ≡ word_if (bursting c) 6 }
+// The test of a write to OPS or an offload memory: 6 while a burst is open, which runs by these (`burst.holds`).
+fn burst_tests(c: Control) -> Result<(), Refusal>
+    ensures { told result ≡ word_if (bursting c) 6 }
 {
-    bank::select(burst_commands::is_bursting(c), number::TRANSFER_OPEN, 0)
-}
-
-// OPS after a write where `comes` holds (`ops.keeps`); else as it was.
-fn ops_if(ops: u8, comes: bool, x: u32) -> u8
-    ensures { result ≡ cond comes (x % 2 ^ 7) ops }
-{
-    bank::select(comes, (x % 0x80) as u8, ops)
+    if burst_commands::is_bursting(c) {
+        Err(Refusal::TransferOpen)
+    } else {
+        Ok(())
+    }
 }
 
 // OPS (`ops.keeps`).
 pub fn write_ops(st: State, x: u32) -> Effect
     ensures { (t : Tables) (f : Fronts) → effect_of result t ≡ verdict (λ v. write (row Ops) v x) (seen st t f) }
 {
-    let n = burst_number(st.control);
-    let regs = Regs { ops: ops_if(st.regs.ops, n == 0, x), ..st.regs };
-    put_regs(st, regs, n)
+    if let Err(why) = burst_tests(st.control) {
+        return effect::refuse(st, why);
+    }
+    let regs = Regs { ops: (x % 0x80) as u8, ..st.regs };
+    put_regs(st, regs)
 }
 
 // DEV_CHAR: `dev-char.select`, `dev-char.flags`.
@@ -83,11 +84,14 @@ pub fn write_device(st: State, x: u32) -> Effect
     effect::done_with(State { regs, ..st }, 0, 0, None, effect::table_if(bank::bit(8, x), flags))
 }
 
-// A write of one word of an offload memory (`offload.keeps`), with its number.
-fn put_entry(st: State, n: u32, entry: Table) -> Effect
-    ensures { (x : Tables) → effect_of result x ≡ record { value = 0; number = n; regs = st.regs; control = st.control; phase = st.phase; tables = cond (eqb n 0) (tables_by entry x) x; ops = keep_all } }
+// A write of one word of an offload memory (`offload.keeps`).
+fn put_entry(st: State, entry: Table) -> Effect
+    ensures { (x : Tables) → effect_of result x ≡ record { value = 0; number = word_if (bursting st.control) 6; regs = st.regs; control = st.control; phase = st.phase; tables = cond (bursting st.control) x (tables_by entry x); ops = keep_all } }
 {
-    effect::done_with(st, 0, n, None, effect::table_if(n == 0, entry))
+    match burst_tests(st.control) {
+        Err(why) => effect::refuse(st, why),
+        Ok(()) => effect::done_with(st, 0, 0, None, entry),
+    }
 }
 
 // An offload command (`offload.keeps`).
@@ -95,7 +99,7 @@ fn put_entry(st: State, n: u32, entry: Table) -> Effect
 pub fn write_offload_cmd(st: State, i: u32, x: u32) -> Effect
     ensures { (t : Tables) (f : Fronts) → effect_of result t ≡ verdict (λ v. write (row (OffloadCmd i)) v x) (seen st t f) }
 {
-    put_entry(st, burst_number(st.control), Table::Command(i, x))
+    put_entry(st, Table::Command(i, x))
 }
 
 // An offload data word (`offload.keeps`).
@@ -103,5 +107,5 @@ pub fn write_offload_cmd(st: State, i: u32, x: u32) -> Effect
 pub fn write_offload_sdo(st: State, i: u32, x: u32) -> Effect
     ensures { (t : Tables) (f : Fronts) → effect_of result t ≡ verdict (λ v. write (row (OffloadSdo i)) v x) (seen st t f) }
 {
-    put_entry(st, burst_number(st.control), Table::Payload(i, x))
+    put_entry(st, Table::Payload(i, x))
 }

@@ -3,6 +3,7 @@
 #![tactic(auto)]
 
 ghost use Rattle.std.specs.Prelude.{◌≡◌, true, false};
+ghost use Rattle.number.specs.Refusals.{told};
 ghost use Rattle.registers.specs.declared.Register.TheVariants.{Enable, IrqPending, CmdFifo, SdoFifo};
 ghost use Rattle.model.specs.View.{Tables};
 ghost use Rattle.model.specs.Registers.{acknowledged, enable, row, write};
@@ -12,6 +13,7 @@ ghost use Rattle.write_control.specs.Numbers.{push_number};
 
 use bank::{Control, Phase, State};
 use effect::{Effect, Op};
+use number::Refusal;
 use queues::Queue;
 
 // A 1 clears the pending bit at its place (`pending.clear`).
@@ -59,31 +61,39 @@ pub fn write_enable(st: State, x: u32) -> Effect
     if bank::bit(0, x) { reset(st) } else { release(st) }
 }
 
-// The number of a push: 5 in reset, 1 where the queue is full, else 0 (`cmd.push`, `sdo.push`).
-fn push_number(held: bool, cap: u32, level: u32) -> u32
-    ensures { result ≡ push_number held cap level }
+// The tests of a push: 5 in reset, 1 where the queue is full (`cmd.push`, `sdo.push`).
+fn push_tests(held: bool, cap: u32, level: u32) -> Result<(), Refusal>
+    ensures { told result ≡ push_number held cap level }
 {
-    let n = bank::select(cap <= level, number::DROPPED_FULL, 0);
-    bank::select(held, number::HELD_IN_RESET, n)
+    if held {
+        return Err(Refusal::HeldInReset);
+    }
+    if cap <= level {
+        return Err(Refusal::DroppedFull);
+    }
+    Ok(())
 }
 
-// A push to CMD (`cmd.push`): made where its number is 0, else nothing changes. One way out: a return of its own for
-// the refusal costs time.
+// A push to CMD (`cmd.push`).
 pub fn write_cmd(st: State, x: u32) -> Effect
     ensures { (t : Tables) (f : Fronts) → effect_of result t ≡ verdict (λ v. write (row CmdFifo) v x) (seen st t f) }
 {
-    let n = push_number(st.control.held, st.caps.cmd.0, st.levels.cmd.0);
-    effect::done(st, 0, n, effect::on(Queue::Cmd, n == 0, Op::Push(x)))
+    match push_tests(st.control.held, st.caps.cmd.0, st.levels.cmd.0) {
+        Err(why) => effect::refuse(st, why),
+        Ok(()) => effect::done(st, 0, 0, effect::on(Queue::Cmd, true, Op::Push(x))),
+    }
 }
 
 // A push to SDO (`sdo.push`), which clears pending bit 7 (`source.address`).
 pub fn write_sdo(st: State, x: u32) -> Effect
     ensures { (t : Tables) (f : Fronts) → effect_of result t ≡ verdict (λ v. write (row SdoFifo) v x) (seen st t f) }
 {
-    let n = push_number(st.control.held, st.caps.sdo.0, st.levels.sdo.0);
+    if let Err(why) = push_tests(st.control.held, st.caps.sdo.0, st.levels.sdo.0) {
+        return effect::refuse(st, why);
+    }
     let control = Control {
-        daapending: !(n == 0) & st.control.daapending,
+        daapending: false,
         ..st.control
     };
-    effect::done(State { control, ..st }, 0, n, effect::on(Queue::Sdo, n == 0, Op::Push(x)))
+    effect::done(State { control, ..st }, 0, 0, effect::on(Queue::Sdo, true, Op::Push(x)))
 }

@@ -29,31 +29,20 @@ fn is_carried(w: u32) -> bool
 }
 
 // Whether a burst can run each of the first `n` commands.
-#[tactic(auto, unfolding(bank::specs::Bursts::all_carried))]
 pub fn all_carried(commands: &[u32; 16], n: usize) -> bool
     requires { n ≤ 16 }
     ensures { result ≡ all_carried n commands.now }
 {
-    let mut ok = true;
-    for i in 0..n {
-        let w = commands[i];
-        ok = ok & is_carried(w);
-    }
-    ok
+    commands[..n].iter().all(|w| is_carried(*w))
 }
 
 // How many of the first `n` commands are reads.
-#[tactic(auto, unfolding(bank::specs::Bursts::reads_in))]
+#[tactic(auto, using(crate::proofs::First::reads_first))]
 pub fn reads_in(commands: &[u32; 16], n: usize) -> usize
     requires { n ≤ 16 }
     ensures { (result ≡ reads_in n commands.now) × (result ≤ n) }
 {
-    let mut count: usize = 0;
-    for i in 0..n {
-        let w = commands[i];
-        count = count + (w % 2) as usize;
-    }
-    count
+    commands[..n].iter().filter(|w| bank::bit(0, **w)).count()
 }
 
 // Whether a burst is open.
@@ -82,5 +71,9 @@ pub fn is_open(w: u32, p: Phase) -> bool
 pub fn gathered_bytes(p: Phase) -> Bytes
     ensures { result.0 ≡ gathered_bytes p }
 {
-    bank::select(phases::is_reading(p), phases::transfer_of(p).moved, Bytes(0))
+    bank::select(
+        phases::is_reading(p),
+        phases::transfer_of(p).moved,
+        Bytes(0),
+    )
 }

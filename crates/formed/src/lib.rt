@@ -18,24 +18,16 @@ fn open_ok(c: Control, g: Regs, p: Phase, commands: &[u32; 16]) -> bool
 }
 
 // Whether a bank is well formed, by its parts, with the tables where they lie; the payload words are not looked at. A
-// branch for each part: the tests of a part then compile to compares and jumps, and the flags are scanned last.
+// branch (`&&`) for each part: the tests of a part then compile to compares and jumps, and the flags are scanned last.
 #[tactic(auto, unfolding(bank::specs::Formed::well_formed))]
 pub fn parts_formed(s: State, h: Heads, flags: &[u8; 128], commands: &[u32; 16]) -> bool
     ensures { (ps : List ℕ) → result ≡ well_formed (record { state = s; heads = h; flags = flags.now; commands = commands.now; payloads = ps }) }
 {
-    let p = s.phase;
-    let ranges = formed_ranges::queues_ok(s.caps, s.levels, h)
-        & (formed_ranges::regs_ok(s.regs) & bank::marks_ok(s.regs.marks, s.caps));
-    if !ranges {
-        return false;
-    }
-    if !open_ok(s.control, s.regs, p, commands) {
-        return false;
-    }
-    if !formed_reset::reset_ok(s.control, p, s.levels, h) {
-        return false;
-    }
-    formed_ranges::flags_ok(flags)
+    (formed_ranges::queues_ok(s.caps, s.levels, h)
+        & (formed_ranges::regs_ok(s.regs) & bank::marks_ok(s.regs.marks, s.caps)))
+        && open_ok(s.control, s.regs, s.phase, commands)
+        && formed_reset::reset_ok(s.control, s.phase, s.levels, h)
+        && formed_ranges::flags_ok(flags)
 }
 
 // Whether a bank is well formed, by value: `formed.set-up`, `formed.fields`, `formed.moved`, `formed.part`,
@@ -43,7 +35,5 @@ pub fn parts_formed(s: State, h: Heads, flags: &[u8; 128], commands: &[u32; 16])
 pub fn well_formed(b: Bank) -> bool
     ensures { result ≡ well_formed b }
 {
-    let f = b.flags;
-    let w = b.commands;
-    parts_formed(b.state, b.heads, &f, &w)
+    parts_formed(b.state, b.heads, &b.flags, &b.commands)
 }

@@ -12,10 +12,7 @@ use bank::{Control, Phase, Regs};
 fn place_of(c: Control) -> usize
     ensures { result ≡ place c }
 {
-    if c.burst == 0 {
-        return 0;
-    }
-    (c.burst - 1) as usize
+    usize::from(c.burst.saturating_sub(1))
 }
 
 // Whether an open burst is well formed.
@@ -24,13 +21,10 @@ pub fn burst_ok(c: Control, g: Regs, p: Phase, commands: &[u32; 16]) -> bool
     ensures { result ≡ burst_ok c g p commands.now }
 {
     let span = burst_commands::span_of(g);
-    let at = c.burst as usize;
-    let k = place_of(c);
-    let w = bank::word_at(commands, k);
-    let t = phases::transfer_of(p);
+    let command = bank::entry_at(commands, place_of(c), 0);
     burst_commands::is_offload(g)
         & burst_commands::all_carried(commands, span)
-        & (at <= span)
-        & burst_commands::is_open(w, p)
-        & formed_transfer::transfer_ok(t, phases::limit_of(p), burst_commands::gathered_bytes(p))
+        & (usize::from(c.burst) <= span)
+        & burst_commands::is_open(command, p)
+        & formed_transfer::transfer_ok(phases::transfer_of(p), phases::limit_of(p), burst_commands::gathered_bytes(p))
 }

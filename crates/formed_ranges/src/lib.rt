@@ -36,16 +36,9 @@ pub fn regs_ok(g: Regs) -> bool
     (g.ops < 128) & (g.config < 4) & (g.selected < 128)
 }
 
-// By the largest flag byte: a loop without an early exit, which compiles to a vector maximum.
+// By the largest flag byte: no early exit, so that it compiles to a vector maximum.
 pub fn flags_ok(flags: &[u8]) -> bool
     ensures { result ≡ flags_ok flags.now }
 {
-    let mut most: u8 = 0;
-    for i in 0..flags.len() {
-        let x = flags[i];
-        if most < x {
-            most = x;
-        }
-    }
-    most < 8
+    flags.iter().fold(0, |most, x| most.max(*x)) < 8
 }

@@ -15,9 +15,9 @@ fn part_ok(part: u32, parts: u32) -> bool
 {
     match parts {
         0 => part == 0,
-        1 => part % 16777216 == 0,
-        2 => part % 65536 == 0,
-        3 => part % 256 == 0,
+        1 => part % 0x100_0000 == 0,
+        2 => part % 0x1_0000 == 0,
+        3 => part % 0x100 == 0,
         _ => true,
     }
 }
@@ -34,6 +34,5 @@ pub fn transfer_ok(t: Transfer, most: Bytes, parts: Bytes) -> bool
 pub fn phase_ok(p: Phase) -> bool
     ensures { result ≡ phase_ok p }
 {
-    let t = phases::transfer_of(p);
-    transfer_ok(t, phases::limit_of(p), phases::part_bytes(p))
+    transfer_ok(phases::transfer_of(p), phases::limit_of(p), phases::part_bytes(p))
 }

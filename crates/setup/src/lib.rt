@@ -3,16 +3,19 @@
 #![tactic(auto)]
 
 ghost use Rattle.std.specs.Prelude.{◌≡◌};
-ghost use Rattle.bank.specs.SetUp.{counts_of, sizes_ok, zeros, no_heads, bank_of, refused_set_up, set_up};
+ghost use Rattle.queues.specs.Each.{each, every};
+ghost use Rattle.bank.specs.SetUp.{counts_of, sizes_ok, bank_of, refused_set_up, set_up};
 
-use bank::{Answer, Bank, Counts, Heads, Phase, Regs, SetUp, Sizes, State};
+use bank::{Answer, Bank, Counts, Phase, Regs, SetUp, Sizes, State};
+use number::Refusal;
+use queues::Five;
 use ring::Words;
 
 // Numbers as a caller gives them, as counts of words.
 fn counts_of(s: Sizes) -> Counts
     ensures { result ≡ counts_of s }
 {
-    Counts {
+    Five {
         cmd: Words(s.cmd),
         cmdr: Words(s.cmdr),
         sdo: Words(s.sdo),
@@ -34,61 +37,32 @@ fn sizes_ok(caps: Sizes, marks: Sizes) -> bool
         & bank::marks_ok(counts_of(marks), counts_of(caps))
 }
 
-fn no_sizes() -> Sizes
-    ensures { result ≡ zeros }
-{
-    Sizes {
-        cmd: 0,
-        cmdr: 0,
-        sdo: 0,
-        sdi: 0,
-        ibi: 0,
-    }
-}
-
-fn no_heads() -> Heads
-    ensures { result ≡ no_heads }
-{
-    Heads {
-        cmd: 0,
-        cmdr: 0,
-        sdo: 0,
-        sdi: 0,
-        ibi: 0,
-    }
-}
-
 // A bank in reset with these numbers, and 0 elsewhere (`set-up.fresh`).
 fn fresh_bank(caps: Sizes, marks: Sizes, held: bool, id: u8) -> Bank
     ensures { result ≡ bank_of caps marks held id }
 {
-    let k = counts_of(caps);
-    let l = counts_of(no_sizes());
-    let m = counts_of(marks);
-    let c = bank::cleared_control(held);
-    let g = Regs {
-        id: id,
+    let regs = Regs {
+        id,
         scratch: 0,
         mask: 0,
         ops: 0,
         config: 0,
         selected: 0,
-        marks: m,
+        marks: counts_of(marks),
     };
-    let s = State {
-        caps: k,
-        levels: l,
-        regs: g,
-        control: c,
+    let state = State {
+        caps: counts_of(caps),
+        levels: Five::every(Words(0)),
+        regs,
+        control: bank::cleared_control(held),
         phase: Phase::Idle,
     };
-    let h = no_heads();
     Bank {
-        state: s,
-        heads: h,
-        flags: [0u8; 128],
-        commands: [0u32; 16],
-        payloads: [0u32; 16],
+        state,
+        heads: Five::every(0),
+        flags: [0; 128],
+        commands: [0; 16],
+        payloads: [0; 16],
     }
 }
 
@@ -96,13 +70,11 @@ fn fresh_bank(caps: Sizes, marks: Sizes, held: bool, id: u8) -> Bank
 fn refused_set_up() -> SetUp
     ensures { result ≡ refused_set_up }
 {
-    let none = no_sizes();
-    let b = fresh_bank(none, none, false, 0);
-    let a = Answer {
-        value: 0,
-        number: number::SET_UP_OUT_OF_RANGE,
-    };
-    SetUp { bank: b, answer: a }
+    let none = Five::every(0);
+    SetUp {
+        bank: fresh_bank(none, none, false, 0),
+        answer: Answer::refused(Refusal::SetUpOutOfRange),
+    }
 }
 
 // A bank in reset with number 0; a bank of zeros with 23 where a number is out of range.
@@ -110,38 +82,28 @@ fn refused_set_up() -> SetUp
 pub fn set_up(caps: Sizes, marks: Sizes, id: u32) -> SetUp
     ensures { result ≡ set_up caps marks id }
 {
-    if 255 < id {
+    let Ok(id) = u8::try_from(id) else {
+        return refused_set_up();
+    };
+    if !sizes_ok(caps, marks) {
         return refused_set_up();
     }
-    if sizes_ok(caps, marks) {
-        let b = fresh_bank(caps, marks, true, id as u8);
-        let a = Answer {
-            value: 0,
-            number: 0,
-        };
-        return SetUp { bank: b, answer: a };
+    SetUp {
+        bank: fresh_bank(caps, marks, true, id),
+        answer: Answer::done(0),
     }
-    refused_set_up()
 }
 
 // The bank of a session, as `session.bank` has it.
 pub fn session_bank() -> Bank
-    ensures { result ≡ (set_up (record { cmd = 4; cmdr = 4; sdo = 4; sdi = 4; ibi = 4 }) (record { cmd = 1; cmdr = 3; sdo = 1; sdi = 3; ibi = 3 }) 0).bank }
+    ensures { result ≡ (set_up (every 4) (each 1 3 1 3 3) 0).bank }
 {
-    let caps = Sizes {
-        cmd: 4,
-        cmdr: 4,
-        sdo: 4,
-        sdi: 4,
-        ibi: 4,
-    };
-    let marks = Sizes {
+    let marks = Five {
         cmd: 1,
         cmdr: 3,
         sdo: 1,
         sdi: 3,
         ibi: 3,
     };
-    let r = set_up(caps, marks, 0);
-    r.bank
+    set_up(Five::every(4), marks, 0).bank
 }

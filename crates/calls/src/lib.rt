@@ -13,16 +13,9 @@ pub fn is_misfit(call: Call) -> bool
     ensures { result ≡ misfit call }
 {
     match call {
-        Call::Read(_) => false,
-        Call::Write(_, _) => false,
-        Call::Start => false,
-        Call::Send => false,
-        Call::Receive(_) => false,
         Call::Finish(code) => 15 < code,
         Call::Interrupt(address, _) => 127 < address,
-        Call::Request(_, _) => false,
-        Call::Take => false,
-        Call::Trigger => false,
+        _ => false,
     }
 }
 
@@ -30,16 +23,5 @@ pub fn is_misfit(call: Call) -> bool
 pub fn is_event(call: Call) -> bool
     ensures { result ≡ not (is_access call) }
 {
-    match call {
-        Call::Read(_) => false,
-        Call::Write(_, _) => false,
-        Call::Start => true,
-        Call::Send => true,
-        Call::Receive(_) => true,
-        Call::Finish(_) => true,
-        Call::Interrupt(_, _) => true,
-        Call::Request(_, _) => true,
-        Call::Take => true,
-        Call::Trigger => true,
-    }
+    !matches!(call, Call::Read(_) | Call::Write(_, _))
 }

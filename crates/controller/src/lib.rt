@@ -19,19 +19,16 @@ use model::Call;
 fn with_tables(y: Next, flags: [u8; 128], commands: [u32; 16], payloads: [u32; 16]) -> Out
     ensures { result ≡ next_out y (tables flags commands payloads []) }
 {
-    let s = y.state;
-    let h = y.heads;
-    let a = y.answer;
-    let next = Bank {
-        state: s,
-        heads: h,
-        flags: flags,
-        commands: commands,
-        payloads: payloads,
+    let bank = Bank {
+        state: y.state,
+        heads: y.heads,
+        flags,
+        commands,
+        payloads,
     };
     Out {
-        bank: next,
-        answer: a,
+        bank,
+        answer: y.answer,
     }
 }
 

@@ -18,6 +18,7 @@ ghost use Rattle.effect.specs.Seen.{Fronts, seen};
 use bank::{Heads, State};
 use effect::Effect;
 use model::Call;
+use queues::Queue;
 
 fn read_at(
     st: State,
@@ -71,16 +72,16 @@ pub fn call(
         Call::Write(offset, v) => write::write(registers::register_at(offset), st, v),
         Call::Start => start(
             st,
-            rings::cmd_word(st.caps, st.levels, h, store, 0),
-            rings::cmd_word(st.caps, st.levels, h, store, 1),
+            rings::word(Queue::Cmd, st.caps, st.levels, h, store, 0),
+            rings::word(Queue::Cmd, st.caps, st.levels, h, store, 1),
             flags,
         ),
-        Call::Send => payload::send(st, rings::sdo_first(st.caps, st.levels, h, store)),
+        Call::Send => payload::send(st, rings::word(Queue::Sdo, st.caps, st.levels, h, store, 0)),
         Call::Receive(byte) => payload::receive(st, byte),
         Call::Finish(code) => finish::finish(st, code),
         Call::Interrupt(address, byte) => interrupt(st, flags, address, byte),
         Call::Request(v, w) => addresses::request(st, v, w),
-        Call::Take => addresses::take_address(st, rings::sdo_first(st.caps, st.levels, h, store)),
+        Call::Take => addresses::take_address(st, rings::word(Queue::Sdo, st.caps, st.levels, h, store, 0)),
         Call::Trigger => trigger::trigger(st, flags, commands, len),
     }
 }

@@ -5,7 +5,7 @@ use Rattle.bank.specs.Queues.{queues_of}
 use Rattle.model.specs.View.{tables}
 use Rattle.answer.specs.Given.{view}
 use Rattle.rings.specs.Fronts.{fronts}
-use Rattle.decide.proofs.Tests.{misfits, in_burst}
+use Rattle.calls.proofs.Tests.{misfits, in_burst}
 use Rattle.decide.proofs.decide.Goals as goal
 
 pub returns-then-is_misfit : goal.returns-then-is_misfit

@@ -23,17 +23,17 @@ use Rattle.outside.proofs.call.Goals as goal
 pub read_at-requires : goal.read_at-requires
 read_at-requires c = ready_of _ _ _ _ c.requires.0
 
-pub cmd_word-requires : goal.cmd_word-requires
-cmd_word-requires c = ready_of _ _ _ _ c.requires.0
+pub word-requires : goal.word-requires
+word-requires c = ready_of _ _ _ _ c.requires.0
 
-pub cmd_word-requires-in-Start : goal.cmd_word-requires-in-Start
-cmd_word-requires-in-Start c = ready_of _ _ _ _ c.requires.0
+pub word-requires-in-Start : goal.word-requires-in-Start
+word-requires-in-Start c = ready_of _ _ _ _ c.requires.0
 
-pub sdo_first-requires : goal.sdo_first-requires
-sdo_first-requires c = ready_of _ _ _ _ c.requires.0
+pub word-requires-in-Send : goal.word-requires-in-Send
+word-requires-in-Send c = ready_of _ _ _ _ c.requires.0
 
-pub sdo_first-requires-in-Take : goal.sdo_first-requires-in-Take
-sdo_first-requires-in-Take c = ready_of _ _ _ _ c.requires.0
+pub word-requires-in-Take : goal.word-requires-in-Take
+word-requires-in-Take c = ready_of _ _ _ _ c.requires.0
 
 -- ── The phase is well formed ──────────────────────────────────────────────────────────────────────────────────
 pub receive-requires : goal.receive-requires
@@ -72,7 +72,7 @@ returns-in-Start c =
     λ o n.
     let t = tables a.flags.now a.commands.now a.payloads.now o in
     let v = view a.st a.h t s in
-    called v _ _ _ c.in-Start.is (past v short_in_burst 13 start _ (never_short v none) (c.start.ensures a.commands.now a.payloads.now o f c.cmd_word.ensures c.cmd_word-in-Start.ensures))
+    called v _ _ _ c.in-Start.is (past v short_in_burst 13 start _ (never_short v none) (c.start.ensures a.commands.now a.payloads.now o f c.word.ensures c.word-in-Start.ensures))
 
 pub returns-in-Send : goal.returns-in-Send
 returns-in-Send c =
@@ -83,7 +83,7 @@ returns-in-Send c =
     λ o n.
     let t = tables a.flags.now a.commands.now a.payloads.now o in
     let v = view a.st a.h t s in
-    called v _ _ _ c.in-Send.is (outside v burst_send send _ none (c.send.ensures t f c.sdo_first.ensures))
+    called v _ _ _ c.in-Send.is (outside v burst_send send _ none (c.send.ensures t f c.word-in-Send.ensures))
 
 pub returns-in-Receive : goal.returns-in-Receive
 returns-in-Receive c =
@@ -147,7 +147,7 @@ returns-in-Take c =
     λ o n.
     let t = tables a.flags.now a.commands.now a.payloads.now o in
     let v = view a.st a.h t s in
-    called v _ _ _ c.in-Take.is (past v short_in_burst 13 take_address _ (never_short v none) (c.take_address.ensures t f c.sdo_first-in-Take.ensures))
+    called v _ _ _ c.in-Take.is (past v short_in_burst 13 take_address _ (never_short v none) (c.take_address.ensures t f c.word-in-Take.ensures))
 
 pub returns-in-Trigger : goal.returns-in-Trigger
 returns-in-Trigger c =

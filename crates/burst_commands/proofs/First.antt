@@ -1,13 +1,10 @@
 -- What the first commands of a table say, by recursion from the end, is what the list of them says.
-use Rattle.std.proofs.Common.{◌≡◌, ◌∙◌, sym, refl, ap, ℕ, zero, suc, ◌+◌, ◌≤◌, ◌<◌, ◌/◌, ◌%◌, List, length, get_or, take, add-one, arith}
-use Rattle.std.specs.List.{list_all, count_by}
-use Rattle.std.proofs.lemmas.Bool.{eqb-true, eqb-false}
+use Rattle.std.proofs.Common.{◌≡◌, ◌∙◌, sym, refl, ap, ℕ, zero, suc, ◌≤◌, ◌<◌, List, length, get_or, take, add-one, arith}
+use Rattle.std.specs.List.{list_all}
 use Rattle.std.proofs.lemmas.List.Folds.{list_all_more}
 use Rattle.std.proofs.lemmas.List.Recursion.{and_is}
-use Rattle.std.proofs.lemmas.List.Sums.{count_by_more_no, count_by_more_yes}
 use mathlib.Core.Bool.{Bool, true, false, ◌&&◌}
-use Rattle.bank.specs.Bits.{bit, bits}
-use Rattle.bank.specs.Bursts.{carried, all_carried, reads_in}
+use Rattle.bank.specs.Bursts.{carried, all_carried}
 
 pub carried_first : (n : ℕ) (ws : List ℕ) → n ≤ length ws → all_carried n ws ≡ list_all carried (take n ws)
 unfolding all_carried
@@ -20,13 +17,3 @@ carried_first (suc n) ws h =
 -- r is what `all` answers of them
 pub all_first : (n : ℕ) (ws : List ℕ) (r : Bool) → n ≤ length ws → (r ≡ true → (i : ℕ) → i < length (take n ws) → carried (get_or (take n ws) i 0) ≡ true) → (r ≡ false → (i : ℕ) × (i < length (take n ws)) × (carried (get_or (take n ws) i 0) ≡ false)) → r ≡ all_carried n ws
 all_first n ws r h t f = and_is (list_all carried) carried refl (λ _ _. refl) (take n ws) 0 r t f ∙ sym (carried_first n ws h)
-
-pub reads_first : (n : ℕ) (ws : List ℕ) → n ≤ length ws → count_by (bit 0) (take n ws) ≡ reads_in n ws
-unfolding reads_in
-reads_first zero ws h = refl
-reads_first (suc n) ws h =
-    ap (λ (k : ℕ). count_by (bit 0) (take k ws)) (sym (add-one n)) ∙ go (bit 0 (get_or ws n 0)) refl (reads_first n ws (omega (arith, h)))
-  where
-    go : (t : Bool) → bit 0 (get_or ws n 0) ≡ t → count_by (bit 0) (take n ws) ≡ reads_in n ws → count_by (bit 0) (take (n + 1) ws) ≡ reads_in n ws + bits 0 0 (get_or ws n 0)
-    go true e f = count_by_more_yes (bit 0) ws n 0 (omega (arith, h)) e ∙ omega (arith, f, eqb-true (get_or ws n 0 / 1 % 2) 1 e)
-    go false e f = count_by_more_no (bit 0) ws n 0 (omega (arith, h)) e ∙ omega (arith, f, eqb-false (get_or ws n 0 / 1 % 2) 1 e)

@@ -26,5 +26,9 @@ pub fn burst_ok(c: Control, g: Regs, p: Phase, commands: &[u32; 16]) -> bool
         & burst_commands::all_carried(commands, span)
         & (usize::from(c.burst) <= span)
         & burst_commands::is_open(command, p)
-        & formed_transfer::transfer_ok(phases::transfer_of(p), phases::limit_of(p), burst_commands::gathered_bytes(p))
+        & formed_transfer::transfer_ok(
+            phases::transfer_of(p),
+            phases::limit_of(p),
+            burst_commands::gathered_bytes(p),
+        )
 }

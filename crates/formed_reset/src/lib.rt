@@ -42,7 +42,8 @@ fn control_clear(c: Control) -> bool
         & ((c.burst == 0) & ((c.latest.cmdr == 0) & (c.latest.sdi == 0) & (c.latest.ibi == 0)))
 }
 
-// Whether a bank is released, or is as `formed.reset` asks. Out of reset nothing is looked at (`||`, no `|`): few calls meet a bank in reset.
+// Whether a bank is released, or is as `formed.reset` asks. Out of reset nothing is looked at (`||`, not `|`): few calls
+// meet a bank in reset.
 #[tactic(auto, unfolding(bank::specs::Formed::reset_ok))]
 pub fn reset_ok(c: Control, p: Phase, l: Counts, h: Heads) -> bool
     ensures { (k : Counts) → result ≡ reset_ok c p (queues_of k l h) }

@@ -34,5 +34,9 @@ pub fn transfer_ok(t: Transfer, most: Bytes, parts: Bytes) -> bool
 pub fn phase_ok(p: Phase) -> bool
     ensures { result ≡ phase_ok p }
 {
-    transfer_ok(phases::transfer_of(p), phases::limit_of(p), phases::part_bytes(p))
+    transfer_ok(
+        phases::transfer_of(p),
+        phases::limit_of(p),
+        phases::part_bytes(p),
+    )
 }

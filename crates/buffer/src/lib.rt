@@ -9,7 +9,5 @@ pub fn shift(buf: &mut [u8], used: usize, held: usize)
     requires { used + held ≤ length buf.old }
     ensures { take held buf.new ≡ take held (drop used buf.old) }
 {
-    for k in 0..held {
-        buf[k] = buf[used + k];
-    }
+    buf.copy_within(used..used + held, 0);
 }

@@ -52,7 +52,13 @@ fn call_of(letter: u32, offset: u32, first: u32, second: u32) -> Option<Call>
     if !host_parts::fits(letter, offset) {
         return None;
     }
-    record::named((letter % 256) as u8, 0, offset, first, second)
+    record::named(
+        (letter % 256) as u8,
+        0,
+        (offset % 65536) as u16,
+        first,
+        second,
+    )
 }
 
 // A call on a well-formed bank, whose image is then written.

@@ -4,12 +4,11 @@ use native.Mathlib.Omega.{arith}
 use mathlib.Core.Path.{◌≡◌, refl, ap, sym}
 use mathlib.Core.Bool.{Bool, true, false, cond, ◌&&◌, true≢false}
 use mathlib.Core.List.{[]}
-use mathlib.Core.Option.{Option, none, some}
 use lib.Dec.{leb}
 use borrow.Author.Tests.{ne_eqb, le-ltb, leb-false, leb-true}
 use Rattle.bank.proofs.Bools.{and-true}
 use Rattle.model.specs.declared.Call.TheVariants.{Trigger}
-use Rattle.std.specs.Prelude.{Some, None}
+use Rattle.std.specs.Prelude.{Option, Some, None}
 use Rattle.letters.specs.Forms.{Form, forms, form_with, form_of}
 use Rattle.record_model.specs.Record.{Record, rec, named_in, record_at, has_offset, fits}
 use Rattle.record_model.specs.Writer.{record_bytes}
@@ -17,7 +16,7 @@ use Rattle.record_model.proofs.Writing.{fields_read}
 use Rattle.host_model.specs.Host.{triggers, call_of}
 
 -- no letter is above 255
-no_letter : (l : ℕ) → 255 < l → form_of l ≡ none
+no_letter : (l : ℕ) → 255 < l → form_of l ≡ None
 unfolding forms form_with
 no_letter l h =
     rw (
@@ -39,8 +38,8 @@ unfit_offset true o h = le-ltb o 65536 (omega (arith, h))
 unfit_offset false o h = ne_eqb o 0 (λ e. omega (arith, e, h))
 
 no_offset : (f : Option Form) (l o v w : ℕ) → 65535 < o → named_in f (rec l 0 o v w) ≡ None
-no_offset none l o v w h = refl
-no_offset (some f) l o v w h = rw (unfit_offset (has_offset f.fields) o h) refl
+no_offset None l o v w h = refl
+no_offset (Some f) l o v w h = rw (unfit_offset (has_offset f.fields) o h) refl
 
 module _ (l o v w : ℕ) where
   pub triggered : triggers l o v w ≡ true → Some Trigger ≡ call_of l o v w

@@ -5,6 +5,8 @@ use mathlib.Core.Bool.{Bool, true, false, cond, ◌&&◌}
 use mathlib.Core.List.{List}
 use lib.ListN.{length, set}
 use borrow.Author.Tests.{eq-eqb, ne_eqb}
+use Rattle.number.specs.declared.Refusal.{Refusal}
+use Rattle.number.specs.Refusals.{number_of}
 use Rattle.bank.specs.Fives.{Sizes}
 use Rattle.bank.specs.SetUp.{set_up}
 use Rattle.bank.specs.Formed.{well_formed}
@@ -15,6 +17,7 @@ use Rattle.answer.specs.Given.{controller}
 use Rattle.letters.specs.Named.{Parsed}
 use Rattle.std.specs.Prelude.{Some, None}
 use Rattle.trace_model.specs.Format.{look_number, section_start, section}
+use Rattle.trace_model.proofs.Refused.{not_zero}
 use Rattle.playback_model.specs.declared.Report.{Report}
 use Rattle.image_model.specs.Image.{Kept, kept_of, bank_in, encoded, sized, is_kept}
 use Rattle.host_model.specs.Host.{set_up_in, hosted, refusal, made_in, step_in, tells, told_in, placed_in, section_in}
@@ -103,3 +106,9 @@ pub one_section : (file : List ℕ) (i : ℕ) (ws : List ℕ) (number start : �
     → record { number = number; place = placed_in number start (length records) ws } ≡ section_in file i ws
 unfolding section_in
 one_section file i ws number start records e f g = λ j. record { number = e j; place = placed_in (e j) (f j) (length (g j)) ws }
+
+-- a section that is refused
+pub no_section : (file : List ℕ) (i : ℕ) (ws : List ℕ) (why : Refusal) (x : ℕ) → x ≡ number_of why → number_of why ≡ look_number file i
+    → (x ≡ (section_in file i ws).number) × (ws ≡ (section_in file i ws).place)
+unfolding section_in
+no_section file i ws why x e f = (e ∙ f, rw (ne_eqb (look_number file i) 0 (λ z. not_zero why (f ∙ z))) refl)

@@ -9,7 +9,7 @@ ghost use Rattle.playback_model.specs.Replay.{replay_of};
 ghost use Rattle.player.specs.Given.{reached_with};
 ghost use Rattle.host_parts.specs.Lent.{lent_all, left_all, gave, replay_on};
 
-use bank::{Answer, Heads, State};
+use bank::{Heads, State};
 use replayed::Reached;
 
 // The words of an image, or zeros for one of another length.
@@ -52,15 +52,10 @@ fn on_parts(
 ) -> Reached
     ensures { reached_with result (left_without flags commands payloads store) ≡ replay_of file.now i limit (controller_of s h (lent_without flags commands payloads store)) }
 {
-    let number = trace::look_up(file, i);
-    if number != 0 {
-        let a = Answer {
-            value: 0,
-            number: 0,
-        };
-        return replayed::reach(s, h, number, 0, a);
-    }
-    let records = trace::section(file, i);
+    let records = match trace::section(file, i) {
+        Ok(records) => records,
+        Err(why) => return replayed::reach(s, h, u32::from(why), 0, replayed::NO_ANSWER),
+    };
     let n = record::whole(limit, records);
     let fault = faults::parts_fault(s, h, flags, commands, store.len());
     let mut none = [0u32; 0];

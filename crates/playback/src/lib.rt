@@ -15,13 +15,11 @@ use replayed::Replayed;
 pub fn replay(b: Bank, store: &mut [u32], file: &[u8], i: u32, limit: usize) -> Replayed
     ensures { replayed_out result store.new ≡ replay_of file.now i limit (controller b store.old []) }
 {
-    let number = trace::look_up(file, i);
-    if number != 0 {
-        return replayed::refused(b, number);
-    }
-    let records = trace::section(file, i);
-    let mut none = [0u32; 0];
-    player::play(b, store, &mut none, records, limit)
+    let records = match trace::section(file, i) {
+        Ok(records) => records,
+        Err(why) => return replayed::refused(b, why),
+    };
+    player::play(b, store, &mut [], records, limit)
 }
 
 // The same on a bank that is changed where it lies.

@@ -1,4 +1,4 @@
--- The records of a replay one after another: one that is done, a wrong one, the last one, all of them.
+-- The records of a replay one after another: one that is done, a wrong one, the last one.
 use Prim.Native.Nat.{ℕ, suc, ◌+◌, ◌-◌, ◌<◌, ◌≤◌}
 use native.Mathlib.Omega.{arith}
 use mathlib.Core.Path.{◌≡◌, ap, sym, ◌∙◌}
@@ -16,9 +16,9 @@ use Rattle.faults.specs.Faults.{fault_number}
 use Rattle.faults.proofs.Guards.{kept}
 use Rattle.letters.specs.Named.{Parsed}
 use Rattle.std.specs.Prelude.{Some, None}
-use Rattle.record_model.specs.Record.{record_at, each_record, whole_records}
+use Rattle.record_model.specs.Record.{record_at, each_record}
 use Rattle.record_model.proofs.Each.{goes, stops, ends}
-use Rattle.playback_model.specs.Replay.{Replay, telling, replay_begun, did, wrong, played}
+use Rattle.playback_model.specs.Replay.{Replay, telling, did, wrong}
 
 -- a call that is made keeps what the two tests say
 module _ (l : Controller) (k : Call) (y : Next) (flags commands payloads output store : List ℕ) (made : given y (tables flags commands payloads output) store ≡ step rings l k) where
@@ -52,8 +52,3 @@ module _ (n i : ℕ) (bytes : List ℕ) (a : Answer) (l : Controller) (all x : R
   records_done h k g =
       let e : n ≡ i = omega arith in
       g ∙ ap (λ (m : ℕ). telling 0 m a l) e ∙ ends did wrong n i bytes (telling 0 i a l) k ∙ left
-
--- all records, as many as the limit leaves
-pub all_played : (limit : ℕ) (bytes : List ℕ) (l : Controller) (x y : Replay) (n : ℕ) → x ≡ y → y ≡ each_record did wrong n bytes 0 (replay_begun 0 l) → n ≡ whole_records limit bytes
-    → x ≡ played limit bytes l
-all_played limit bytes l x y n e f g = e ∙ f ∙ ap (λ (m : ℕ). each_record did wrong m bytes 0 (replay_begun 0 l)) g

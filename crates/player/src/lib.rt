@@ -11,7 +11,7 @@ ghost use Rattle.playback_model.specs.Replay.{replay_begun, did, wrong, played};
 ghost use Rattle.replayed.specs.Given.{replayed_with};
 ghost use Rattle.player.specs.Given.{reached_with};
 
-use bank::{Answer, Bank, Heads, State};
+use bank::{Bank, Heads, State};
 use replayed::{Reached, Replayed};
 
 // A state put together field by field (see `bank::state_with`): as one piece, two pairs of levels stay packed from record
@@ -19,8 +19,7 @@ use replayed::{Reached, Replayed};
 fn by_field(s: State) -> State
     ensures { result ≡ s }
 {
-    let p = s.phase;
-    bank::state_with(s.caps, s.levels, s.regs, s.control, p)
+    bank::state_with(s.caps, s.levels, s.regs, s.control, s.phase)
 }
 
 // The first `n` records, on a state and its lent tables: a layer, no interface.
@@ -41,22 +40,15 @@ pub fn replay_parts(
 {
     let mut s = st;
     let mut h = heads;
-    let mut a = Answer {
-        value: 0,
-        number: 0,
-    };
+    let mut a = replayed::NO_ANSWER;
     for i in 0..n {
-        match record::at(records, i) {
-            Some(c) => {
-                let y = serve::step_parts(s, h, flags, commands, payloads, store, output, fault, c);
-                s = by_field(y.state);
-                h = y.heads;
-                a = y.answer;
-            }
-            None => {
-                return replayed::stopped(s, h, i, a);
-            }
-        }
+        let Some(c) = record::at(records, i) else {
+            return replayed::stopped(s, h, i, a);
+        };
+        let y = serve::step_parts(s, h, flags, commands, payloads, store, output, fault, c);
+        s = by_field(y.state);
+        h = y.heads;
+        a = y.answer;
     }
     replayed::reach(s, h, 0, n, a)
 }
@@ -73,11 +65,20 @@ pub fn play(
 {
     let n = record::whole(limit, records);
     let fault = faults::fault(b, store.len());
-    let mut f = b.flags;
-    let mut c = b.commands;
-    let mut p = b.payloads;
+    let mut bank = b;
     let y = replay_parts(
-        b.state, b.heads, &mut f, &mut c, &mut p, store, output, fault, records, n,
+        b.state,
+        b.heads,
+        &mut bank.flags,
+        &mut bank.commands,
+        &mut bank.payloads,
+        store,
+        output,
+        fault,
+        records,
+        n,
     );
-    replayed::out_of(y, f, c, p)
+    bank.state = y.state;
+    bank.heads = y.heads;
+    Replayed { bank, told: y.told }
 }

@@ -1,52 +1,28 @@
 // Records of a trace (`trace.record`, `trace.wrong`): which call one names, its bytes, and how many some bytes have.
 #![tactic(auto)]
 
-ghost use Rattle.std.specs.Prelude.{◌≡◌, cond, ◌+◌, ◌*◌, ◌<◌, ◌≤◌, length, Some, None};
+ghost use Rattle.std.specs.Prelude.{◌≡◌, ◌+◌, ◌*◌, ◌≤◌, length};
 ghost use Rattle.letters.specs.Forms.{form_of};
 ghost use Rattle.record_model.specs.Record.{rec, named_in, record_at, whole_records};
 ghost use Rattle.record_model.specs.Writer.{record_bytes};
 
 use model::Call;
 
-// What a record names if it is right.
-fn when(right: bool, c: Call) -> Option<Call>
-    ensures { result ≡ cond right (Some c) None }
-{
-    if right {
-        return Some(c);
-    }
-    None
-}
-
-// The call of a record, by its fields. No right record has a field that a remainder cuts.
+// The call of a record, by its fields: those that its letter does not use are 0.
 #[tactic(auto, unfolding(letters::specs::Forms::forms, letters::specs::Forms::form_with))]
-pub fn named(letter: u8, zero: u8, offset: u32, v: u32, w: u32) -> Option<Call>
-    requires { offset < 65536 }
+pub fn named(letter: u8, zero: u8, offset: u16, v: u32, w: u32) -> Option<Call>
     ensures { result ≡ named_in (form_of letter) (rec letter zero offset v w) }
 {
-    let z = zero == 0;
-    match letter {
-        b'W' => when(z & (w == 0), Call::Write((offset % 65536) as u16, v)),
-        b'R' => when(
-            z & ((v == 0) & (w == 0)),
-            Call::Read((offset % 65536) as u16),
-        ),
-        b'S' => when(z & ((offset == 0) & ((v == 0) & (w == 0))), Call::Start),
-        b'T' => when(z & ((offset == 0) & ((v == 0) & (w == 0))), Call::Send),
-        b'X' => when(
-            z & ((offset == 0) & ((v < 256) & (w == 0))),
-            Call::Receive((v % 256) as u8),
-        ),
-        b'F' => when(
-            z & ((offset == 0) & ((v < 256) & (w == 0))),
-            Call::Finish((v % 256) as u8),
-        ),
-        b'I' => when(
-            z & ((offset == 0) & ((v < 256) & (w < 256))),
-            Call::Interrupt((v % 256) as u8, (w % 256) as u8),
-        ),
-        b'D' => when(z & (offset == 0), Call::Request(v, w)),
-        b'A' => when(z & ((offset == 0) & ((v == 0) & (w == 0))), Call::Take),
+    match (letter, zero, offset, v, w) {
+        (b'W', 0, o, v, 0) => Some(Call::Write(o, v)),
+        (b'R', 0, o, 0, 0) => Some(Call::Read(o)),
+        (b'S', 0, 0, 0, 0) => Some(Call::Start),
+        (b'T', 0, 0, 0, 0) => Some(Call::Send),
+        (b'X', 0, 0, v, 0) => Some(Call::Receive(u8::try_from(v).ok()?)),
+        (b'F', 0, 0, v, 0) => Some(Call::Finish(u8::try_from(v).ok()?)),
+        (b'I', 0, 0, v, w) => Some(Call::Interrupt(u8::try_from(v).ok()?, u8::try_from(w).ok()?)),
+        (b'D', 0, 0, v, w) => Some(Call::Request(v, w)),
+        (b'A', 0, 0, 0, 0) => Some(Call::Take),
         _ => None,
     }
 }
@@ -69,26 +45,15 @@ pub fn at(records: &[u8], i: usize) -> Option<Call>
 pub fn bytes_of(letter: u8, offset: u32, v: u32, w: u32) -> [u8; 12]
     ensures { result ≡ record_bytes (rec letter 0 offset v w) }
 {
-    [
-        letter,
-        0,
-        (offset % 256) as u8,
-        (offset / 256 % 256) as u8,
-        (v % 256) as u8,
-        (v / 256 % 256) as u8,
-        (v / 256 / 256 % 256) as u8,
-        (v / 256 / 256 / 256 % 256) as u8,
-        (w % 256) as u8,
-        (w / 256 % 256) as u8,
-        (w / 256 / 256 % 256) as u8,
-        (w / 256 / 256 / 256 % 256) as u8,
-    ]
+    let [o0, o1, _, _] = offset.to_le_bytes();
+    let [v0, v1, v2, v3] = v.to_le_bytes();
+    let [w0, w1, w2, w3] = w.to_le_bytes();
+    [letter, 0, o0, o1, v0, v1, v2, v3, w0, w1, w2, w3]
 }
 
 // How many whole records so many bytes have, up to a limit.
 pub fn whole(limit: usize, bytes: &[u8]) -> usize
     ensures { (result ≡ whole_records limit bytes.now) × (12 * result ≤ length bytes.now) }
 {
-    let n = bytes.len() / 12;
-    if limit < n { limit } else { n }
+    limit.min(bytes.len() / 12)
 }

@@ -3,12 +3,14 @@
 #![tactic(auto)]
 
 ghost use Rattle.std.specs.Prelude.{◌≡◌, List, [], ℕ};
-ghost use Rattle.model.specs.View.{Tables, tables};
+ghost use Rattle.model.specs.View.{Tables};
 ghost use Rattle.answer.specs.Given.{bank_with, controller};
+ghost use Rattle.number.specs.Refusals.{number_of};
 ghost use Rattle.playback_model.specs.Replay.{telling, replay_begun, wrong};
-ghost use Rattle.replayed.specs.Given.{replay_reached, replayed_with, replayed_out};
+ghost use Rattle.replayed.specs.Given.{replay_reached, replayed_out};
 
 use bank::{Answer, Bank, Heads, State};
+use number::Refusal;
 use playback_model::Report;
 
 // The bank after a replay.
@@ -26,65 +28,45 @@ pub struct Reached {
     pub told: Report,
 }
 
+// The last answer before the first record (`replay.tells`).
+pub const NO_ANSWER: Answer = Answer {
+    value: 0,
+    number: 0,
+};
+
 // What is told of some records, with the state that they left.
-pub fn reach(s: State, h: Heads, number: u32, count: usize, a: Answer) -> Reached
-    ensures { (t : Tables) (st : List ℕ) → replay_reached result t st ≡ telling number count a (controller (bank_with s h t) st t.output) }
+pub fn reach(state: State, heads: Heads, number: u32, count: usize, answer: Answer) -> Reached
+    ensures { (t : Tables) (st : List ℕ) → replay_reached result t st ≡ telling number count answer (controller (bank_with state heads t) st t.output) }
 {
     let told = Report {
-        number: number,
-        count: count,
-        answer: a,
+        number,
+        count,
+        answer,
     };
-    Reached {
-        state: s,
-        heads: h,
-        told: told,
-    }
+    Reached { state, heads, told }
 }
 
-// A replay that ends at a wrong record, with 27 (`replay.calls`): `done` records were done before it, and `a` is the
-// last answer.
-pub fn stopped(s: State, h: Heads, done: usize, a: Answer) -> Reached
-    ensures { (t : Tables) (st : List ℕ) → replay_reached result t st ≡ wrong (telling 0 done a (controller (bank_with s h t) st t.output)) }
+// A replay that ends at a wrong record, with 27 (`replay.calls`): `count` records were done before it, and `answer` is
+// the last one's.
+pub fn stopped(state: State, heads: Heads, count: usize, answer: Answer) -> Reached
+    ensures { (t : Tables) (st : List ℕ) → replay_reached result t st ≡ wrong (telling 0 count answer (controller (bank_with state heads t) st t.output)) }
 {
-    reach(s, h, number::WRONG_RECORD, done, a)
-}
-
-// The bank that is put together from a state and its tables, with what was told.
-pub fn out_of(y: Reached, flags: [u8; 128], commands: [u32; 16], payloads: [u32; 16]) -> Replayed
-    ensures { (s o : List ℕ) → replayed_with result s o ≡ replay_reached y (tables flags commands payloads o) s }
-{
-    let s = y.state;
-    let h = y.heads;
-    let bank = Bank {
-        state: s,
-        heads: h,
-        flags: flags,
-        commands: commands,
-        payloads: payloads,
-    };
-    let told = y.told;
-    Replayed {
-        bank: bank,
-        told: told,
-    }
-}
-
-// A replay that is refused as a whole, by the number of its look-up: no record done, the bank as it was.
-pub fn refused(b: Bank, why: u32) -> Replayed
-    ensures { (s : List ℕ) → replayed_out result s ≡ replay_begun why (controller b s []) }
-{
-    let a = Answer {
-        value: 0,
-        number: 0,
-    };
     let told = Report {
-        number: why,
+        number: u32::from(Refusal::WrongRecord),
+        count,
+        answer,
+    };
+    Reached { state, heads, told }
+}
+
+// A replay that is refused as a whole, by its look-up: no record done, the bank as it was.
+pub fn refused(bank: Bank, why: Refusal) -> Replayed
+    ensures { (s : List ℕ) → replayed_out result s ≡ replay_begun (number_of why) (controller bank s []) }
+{
+    let told = Report {
+        number: u32::from(why),
         count: 0,
-        answer: a,
+        answer: NO_ANSWER,
     };
-    Replayed {
-        bank: b,
-        told: told,
-    }
+    Replayed { bank, told }
 }

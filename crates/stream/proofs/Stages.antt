@@ -5,6 +5,8 @@ use mathlib.Core.Path.{◌≡◌, ap, sym, ◌∙◌}
 use mathlib.Core.List.{List, []}
 use lib.ListN.{length, take, drop, length-drop}
 use lib.Seq.{take_all}
+use Rattle.number.specs.declared.Refusal.{Refusal}
+use Rattle.number.specs.Refusals.{number_of}
 use Rattle.bank.specs.declared.Bank.{Bank}
 use Rattle.answer.specs.Given.{controller}
 use Rattle.trace_model.specs.declared.Head.{Head}
@@ -20,8 +22,8 @@ module _ (bytes : List ℕ) (found : Head) (is : found ≡ head_of bytes) where
   head_there n records e = right_within bytes n records (sym is ∙ e)
 
   module _ (b : Bank) (store : List ℕ) where
-    pub head_wrong : (x : Stream) (number : ℕ) → found ≡ Wrong number → x ≡ over (controller b store []) bytes [] number → x ≡ opened_by (controller b store []) bytes (head_of bytes)
-    head_wrong x number e f = f ∙ ap (opened_by (controller b store []) bytes) (sym (sym is ∙ e))
+    pub head_wrong : (x : Stream) (why : Refusal) → found ≡ Wrong why → x ≡ over (controller b store []) bytes [] (number_of why) → x ≡ opened_by (controller b store []) bytes (head_of bytes)
+    head_wrong x why e f = f ∙ ap (opened_by (controller b store []) bytes) (sym (sym is ∙ e))
 
     -- the records behind the head
     pub head_right : (y : StreamTurn) (left text : List ℕ) (n records : ℕ) → found ≡ Right n records

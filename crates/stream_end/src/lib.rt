@@ -3,6 +3,7 @@
 #![tactic(auto)]
 
 ghost use Rattle.std.specs.Prelude.{◌≡◌, List, [], ◌++◌, ℕ, ◌+◌, ◌≤◌, length, take};
+ghost use Rattle.number.specs.Refusals.{number_of, told};
 ghost use Rattle.answer.specs.Given.{controller};
 ghost use Rattle.print.specs.Line.{line_of};
 ghost use Rattle.stream_model.specs.declared.Stage.TheVariants.{Over};
@@ -10,6 +11,7 @@ ghost use Rattle.stream_model.specs.Stream.{stream, is_over, end_number, end_tex
 ghost use Rattle.stream_end.specs.Given.{fed_by};
 
 use bank::{Answer, Bank};
+use number::Refusal;
 use stream_model::Stage;
 
 // The bank after a piece, what is to come, how many of its bytes were used, and how many bytes of the text are filled.
@@ -21,58 +23,40 @@ pub struct StreamTurn {
     pub count: usize,
 }
 
-// The line of a number of the replay's own, with the value 0.
-fn refusal(number: u32) -> [u8; 12]
-    ensures { result ≡ line_of 0 number }
+// The line of a refusal, with the value 0.
+fn refusal(why: Refusal) -> [u8; 12]
+    ensures { result ≡ line_of 0 (number_of why) }
 {
-    let a = Answer {
-        value: 0,
-        number: number,
-    };
-    print::line(a)
+    print::line(Answer { value: 0, number: u32::from(why) })
 }
 
 // A replay that ends with a number of its own: a layer, no interface.
-pub fn close(b: Bank, number: u32, used: usize, out: &mut [u8], at: usize) -> StreamTurn
+pub fn close(bank: Bank, why: Refusal, used: usize, out: &mut [u8], at: usize) -> StreamTurn
     requires { at + 12 ≤ length out.old }
-    ensures { ((s : List ℕ) → fed_by result s out.new ≡ stream (controller b s []) Over used (take at out.old ++ line_of 0 number)) × (result.count ≡ at + 12) × (result.used ≡ used) }
+    ensures { ((s : List ℕ) → fed_by result s out.new ≡ stream (controller bank s []) Over used (take at out.old ++ line_of 0 (number_of why))) × (result.count ≡ at + 12) × (result.used ≡ used) }
 {
-    let end = at + 12;
-    let text = refusal(number);
-    print::put(out, at, text);
-    StreamTurn {
-        bank: b,
-        stage: Stage::Over,
-        used: used,
-        count: end,
-    }
+    print::put(out, at, refusal(why));
+    StreamTurn { bank, stage: Stage::Over, used, count: at + 12 }
 }
 
 // Whether there is nothing to come.
 pub fn over(stage: Stage) -> bool
     ensures { result ≡ is_over stage }
 {
-    match stage {
-        Stage::Opening => false,
-        Stage::Records(_) => false,
-        Stage::Over => true,
-    }
+    matches!(stage, Stage::Over)
 }
 
-// The number that the end of the input gives, with so many bytes not used; 0 where all was there. Past the last record
-// no byte is held: `feed` answers it with 25.
+// Why the end of the input is refused, with so many bytes not used, if not all was there. Past the last record no byte
+// is held: `feed` answers it with 25.
 #[tactic(auto, unfolding(stream_model::specs::Stream::end_number))]
-fn end_number(stage: Stage, held: usize) -> u32
-    ensures { result ≡ end_number stage held }
+fn whole(stage: Stage, held: usize) -> Result<(), Refusal>
+    ensures { told result ≡ end_number stage held }
 {
     match stage {
-        Stage::Opening => if held < 4 {
-            number::WRONG_MARK
-        } else {
-            number::WRONG_TABLE
-        },
-        Stage::Records(due) => if due == 0 { 0 } else { number::WRONG_TABLE },
-        Stage::Over => 0,
+        Stage::Opening if held < 4 => Err(Refusal::WrongMark),
+        Stage::Opening => Err(Refusal::WrongTable),
+        Stage::Records(0) | Stage::Over => Ok(()),
+        Stage::Records(_) => Err(Refusal::WrongTable),
     }
 }
 
@@ -81,11 +65,9 @@ pub fn end(stage: Stage, held: usize, out: &mut [u8]) -> usize
     requires { 12 ≤ length out.old }
     ensures { (take result out.new ≡ end_text stage held) × (result ≤ 12) }
 {
-    let number = end_number(stage, held);
-    if number == 0 {
+    let Err(why) = whole(stage, held) else {
         return 0;
-    }
-    let text = refusal(number);
-    print::put(out, 0, text);
+    };
+    print::put(out, 0, refusal(why));
     12
 }

@@ -48,6 +48,6 @@ module _ (n i : ℕ) (bytes out : List ℕ) (l : Controller) (all : RecordsPrint
       ap (λ (m : ℕ). records_printed l (take (12 * m) out) false) e ∙ ends said met n i bytes (records_printed l (take (12 * i) out) false) k ∙ left
 
 -- the output that is lent is empty, and stays so
-pub no_output : (x all : RecordsPrinted) (y : Lines) (flags commands payloads output store out : List ℕ) → x ≡ shown_parts y (tables flags commands payloads []) store out → length output ≡ 0
-    → shown_parts y (tables flags commands payloads output) store out ≡ all → x ≡ all
-no_output x all y flags commands payloads output store out e z f = e ∙ ap (λ (o : List ℕ). shown_parts y (tables flags commands payloads o) store out) (empty output z) ∙ f
+pub no_output : (all : RecordsPrinted) (y : Lines) (flags commands payloads output store out : List ℕ) → length output ≡ 0
+    → shown_parts y (tables flags commands payloads output) store out ≡ all → shown_parts y (tables flags commands payloads []) store out ≡ all
+no_output all y flags commands payloads output store out z e = ap (λ (o : List ℕ). shown_parts y (tables flags commands payloads o) store out) (empty output z) ∙ e

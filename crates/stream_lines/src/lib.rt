@@ -3,13 +3,12 @@
 // (`burst.replay`). `out` takes the text; its bytes past the text are left free.
 #![tactic(auto)]
 
-ghost use Rattle.std.specs.Prelude.{◌≡◌, List, [], ℕ, ◌*◌, ◌≤◌, length};
-ghost use Rattle.model.specs.View.{tables};
+ghost use Rattle.std.specs.Prelude.{◌≡◌, [], ◌*◌, ◌≤◌, length};
 ghost use Rattle.answer.specs.Given.{bank_with, controller};
 ghost use Rattle.answer.specs.Memory.{memory, lent, left, controller_of};
 ghost use Rattle.faults.specs.Faults.{fault_number};
 ghost use Rattle.stream_model.specs.Stream.{lines};
-ghost use Rattle.stream_lines.specs.Given.{shown_parts, shown_with, shown_bank};
+ghost use Rattle.stream_lines.specs.Given.{shown_with, shown_bank};
 
 use bank::{Bank, Heads, State};
 
@@ -50,50 +49,15 @@ fn show_parts(
     let mut s = st;
     let mut h = heads;
     for i in 0..n {
-        match record::at(records, i) {
-            Some(c) => {
-                let y = serve::step_parts(s, h, flags, commands, payloads, store, output, fault, c);
-                s = y.state;
-                h = y.heads;
-                let text = print::line(y.answer);
-                print::put(out, 12 * i, text);
-            }
-            None => {
-                return Lines {
-                    state: s,
-                    heads: h,
-                    wrong: true,
-                    count: 12 * i,
-                };
-            }
-        }
+        let Some(c) = record::at(records, i) else {
+            return Lines { state: s, heads: h, wrong: true, count: 12 * i };
+        };
+        let y = serve::step_parts(s, h, flags, commands, payloads, store, output, fault, c);
+        s = y.state;
+        h = y.heads;
+        print::put(out, 12 * i, print::line(y.answer));
     }
-    Lines {
-        state: s,
-        heads: h,
-        wrong: false,
-        count: 12 * n,
-    }
-}
-
-// The bank that is put together from a state and its tables.
-fn shown_of(y: Lines, flags: [u8; 128], commands: [u32; 16], payloads: [u32; 16]) -> Shown
-    ensures { ((s t : List ℕ) → shown_bank result s t ≡ shown_parts y (tables flags commands payloads []) s t) × (result.count ≡ y.count) }
-{
-    let s = y.state;
-    let h = y.heads;
-    let bank = Bank {
-        state: s,
-        heads: h,
-        flags: flags,
-        commands: commands,
-        payloads: payloads,
-    };
-    Shown {
-        bank: bank,
-        wrong: y.wrong,
-        count: y.count,
-    }
+    Lines { state: s, heads: h, wrong: false, count: 12 * n }
 }
 
 // The first `n` records and their lines: a layer, no interface.
@@ -102,12 +66,11 @@ pub fn show(b: Bank, store: &mut [u32], records: &[u8], n: usize, out: &mut [u8]
     ensures { (shown_bank result store.new out.new ≡ lines n records.now (controller b store.old [])) × (result.count ≤ 12 * n) }
 {
     let fault = faults::fault(b, store.len());
-    let mut f = b.flags;
-    let mut c = b.commands;
-    let mut p = b.payloads;
-    let mut none = [0u32; 0];
+    let mut bank = b;
     let y = show_parts(
-        b.state, b.heads, &mut f, &mut c, &mut p, store, &mut none, fault, records, n, out,
+        b.state, b.heads, &mut bank.flags, &mut bank.commands, &mut bank.payloads, store, &mut [], fault, records, n, out,
     );
-    shown_of(y, f, c, p)
+    bank.state = y.state;
+    bank.heads = y.heads;
+    Shown { bank, wrong: y.wrong, count: y.count }
 }

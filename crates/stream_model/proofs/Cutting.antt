@@ -9,6 +9,7 @@ use lib.Dec.{eqb, ltb}
 use lib.ListN.{length, drop, length-append, length-drop}
 use lib.Seq.{drop-length, drop-drop, drop-append-le}
 use borrow.Author.Tests.{lt-ltb, ltb-true, eqb-true, eq-eqb}
+use Rattle.number.specs.Refusals.{number_of}
 use Rattle.model.specs.Rings.{Controller}
 use Rattle.print.specs.Line.{line_of}
 use Rattle.lines.proofs.Choices.{chosen, passed}
@@ -127,7 +128,7 @@ later_cut n a b s =
 opening_cut : (l : Controller) (a b : List ℕ) (h : Head) → Kept (length a) h (head_of (a ++ b)) → pieces a b (opened_by l a h) ≡ opened_by l (a ++ b) (head_of (a ++ b))
 unfolding stream_fed
 opening_cut l a b More k = let s = opened_by l (a ++ b) (head_of (a ++ b)) in ap (λ (u : ℕ). stream s.left s.stage u s.text) (zero-add s.used)
-opening_cut l a b (Wrong number) k = over_cut l a b [] number ∙ ap (opened_by l (a ++ b)) (sym k)
+opening_cut l a b (Wrong why) k = over_cut l a b [] (number_of why) ∙ ap (opened_by l (a ++ b)) (sym k)
 opening_cut l a b (Right n r) k =
     later_cut n a b (records_of l r (drop n a))
     ∙ ap (later n) (records_cut l r (drop n a) b ∙ ap (records_of l r) (sym (drop-append-le n a b k.0)))

@@ -19,6 +19,7 @@ use Rattle.data_model.proofs.Account.{data_kept}
 use Rattle.print.specs.Line.{line_of}
 use Rattle.letters.specs.Named.{Parsed}
 use Rattle.trace_model.specs.declared.Head.{Head}
+use Rattle.number.specs.declared.Refusal.TheVariants.{WrongMark}
 use Rattle.trace_model.specs.declared.Head.TheVariants.{More, Wrong}
 use Rattle.trace_model.specs.Format.{mark, begins_with, sections, records, section_place, fault}
 use Rattle.trace_model.specs.Head.{head_length, head_of}
@@ -86,7 +87,7 @@ picked_left l bytes k n text true q = refl
 picked_left l bytes k n text false true = refl
 picked_left l bytes k n text false false = refl
 
-unmarked_head : (file : List ℕ) → false ≡ begins_with mark file → (P : Head → Type 0) → P More → P (Wrong 24) → P (head_of file)
+unmarked_head : (file : List ℕ) → false ≡ begins_with mark file → (P : Head → Type 0) → P More → P (Wrong WrongMark) → P (head_of file)
 unmarked_head file m P more wrong = elim (dec_lt (length file) 4) [ yes h ↦ subst P (mark_cut file h) more | no h ↦ subst P (mark_wrong file false (omega (arith, h)) m refl) wrong ]
 
 every_left : (l : Controller) (file : List ℕ) → (stream_fed l Opening file).left ≡ final rings l (lent_on (said_in file) l)

@@ -9,6 +9,7 @@ use lib.Dec.{eqb, ltb, leb}
 use lib.ListN.{length, length-append, get_or-append}
 use borrow.Author.Tests.{lt-ltb, le-ltb}
 use Rattle.trace_model.specs.declared.Head.{Head}
+use Rattle.number.specs.declared.Refusal.TheVariants.{WrongMark, WrongTable}
 use Rattle.trace_model.specs.declared.Head.TheVariants.{More, Wrong, Right}
 use Rattle.little_endian.specs.Numbers.{two_at, four_at}
 use Rattle.trace_model.specs.Format.{mark, begins_with, sections, records, section_place, starts_right}
@@ -58,24 +59,24 @@ module _ (a b : List ℕ) where
 
   -- a table of n sections
   abbrev table : List ℕ → ℕ → Head
-  table x n = cond (starts_right x n && leb (section_place x n) 0x1000000) (Right (6 + 8 * n) (records x n)) (Wrong 25)
+  table x n = cond (starts_right x n && leb (section_place x n) 0x1000000) (Right (6 + 8 * n) (records x n)) (Wrong WrongTable)
 
   table_kept : (n : ℕ) → 6 ≤ length a → 6 + 8 * n ≤ length a → Kept (length a) (table a n) (table (a ++ b) n)
   table_kept n l h =
       let r = Right (6 + 8 * n) (records a n) in
-      rw (starts_more n h, place_more n l h, records_more n h) (either (length a) (starts_right a n && leb (section_place a n) 0x1000000) r r (Wrong 25) (h, refl) refl)
+      rw (starts_more n h, place_more n l h, records_more n h) (either (length a) (starts_right a n && leb (section_place a n) 0x1000000) r r (Wrong WrongTable) (h, refl) refl)
 
   abbrev count : List ℕ → ℕ → Head
-  count x n = cond (leb 1 n && leb n 64) (cond (ltb (length x) (6 + 8 * n)) More (table x n)) (Wrong 25)
+  count x n = cond (leb 1 n && leb n 64) (cond (ltb (length x) (6 + 8 * n)) More (table x n)) (Wrong WrongTable)
 
   count_kept : 6 ≤ length a → Kept (length a) (count_told a) (count_told (a ++ b))
   count_kept l =
       let n = sections a in
-      let k : Kept (length a) (count a n) (count (a ++ b) n) = either (length a) (leb 1 n && leb n 64) _ _ (Wrong 25) (enough (length a) (length (a ++ b)) (6 + 8 * n) (table a n) (table (a ++ b) n) longer (table_kept n l)) refl in
+      let k : Kept (length a) (count a n) (count (a ++ b) n) = either (length a) (leb 1 n && leb n 64) _ _ (Wrong WrongTable) (enough (length a) (length (a ++ b)) (6 + 8 * n) (table a n) (table (a ++ b) n) longer (table_kept n l)) refl in
       subst⁻¹ (λ (i : ℕ). Kept (length a) (count_told a) (count (a ++ b) i)) (two_more 4 l) k
 
   pub head_kept : Kept (length a) (head_of a) (head_of (a ++ b))
   head_kept =
       let m = length a in
       let m' = length (a ++ b) in
-      enough m m' 4 _ _ longer (λ h. rw (opens_more mark a b h) (either m (begins_with mark a) _ _ (Wrong 24) (enough m m' 6 (count_told a) (count_told (a ++ b)) longer count_kept) refl))
+      enough m m' 4 _ _ longer (λ h. rw (opens_more mark a b h) (either m (begins_with mark a) _ _ (Wrong WrongMark) (enough m m' 6 (count_told a) (count_told (a ++ b)) longer count_kept) refl))

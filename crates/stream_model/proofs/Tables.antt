@@ -9,6 +9,7 @@ use lib.Dec.{eqb, leb}
 use lib.ListN.{length}
 use borrow.Author.Tests.{le-leb, leb-true, eqb-true}
 use Rattle.trace_model.specs.declared.Head.{Head}
+use Rattle.number.specs.declared.Refusal.TheVariants.{WrongTable}
 use Rattle.trace_model.specs.declared.Head.TheVariants.{More, Wrong, Right}
 use Rattle.trace_model.specs.Format.{mark, begins_with, sections, records, section_place, starts_right, table_right}
 use Rattle.trace_model.specs.Head.{head_length, head_of}
@@ -77,7 +78,7 @@ sound_head file m t =
     ∙ count_there file true (sym m) refl t.head)
 
 -- a table that is cut, or told to be wrong: what holds of both holds of the head
-module _ (file : List ℕ) (m : true ≡ begins_with mark file) (unsound : Sound file → ⊥) (P : Head → Type 0) (cut : P More) (told : P (Wrong 25)) where
+module _ (file : List ℕ) (m : true ≡ begins_with mark file) (unsound : Sound file → ⊥) (P : Head → Type 0) (cut : P More) (told : P (Wrong WrongTable)) where
   abbrev n : ℕ
   n = sections file
 

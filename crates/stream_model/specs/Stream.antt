@@ -2,6 +2,7 @@
 -- one before it that were not used.
 use Rattle.std.specs.Prelude.{ℕ, ◌+◌, ◌-◌, ◌*◌, Bool, true, false, cond, ◌&&◌, List, [], ◌++◌, eqb, ltb, length, drop}
 use Rattle.number.specs.Names as number
+use Rattle.number.specs.Refusals.{number_of}
 use Rattle.model.specs.declared.Call.{Call}
 use Rattle.model.specs.Engine.{step}
 use Rattle.model.specs.Rings.{Controller, rings}
@@ -62,7 +63,7 @@ records_of l to-come bytes =
 -- the first piece, by what its first bytes tell
 abbrev pub opened_by : Controller → List ℕ → Head → Stream
 opened_by l bytes More = stream l Opening 0 []
-opened_by l bytes (Wrong number) = over l bytes [] number
+opened_by l bytes (Wrong why) = over l bytes [] (number_of why)
 opened_by l bytes (Right n records) = let s = records_of l records (drop n bytes) in stream s.left s.stage (n + s.used) s.text
 
 -- what a piece does at a stage; once over, nothing

@@ -9,6 +9,7 @@ ghost use Rattle.stream_model.specs.Stream.{records_of};
 ghost use Rattle.stream_end.specs.Given.{fed_left, Bounded};
 
 use bank::Bank;
+use number::Refusal;
 use stream_end::StreamTurn;
 use stream_model::Stage;
 
@@ -25,19 +26,12 @@ pub fn feed_records(
 {
     let n = record::whole(due, bytes);
     let p = stream_lines::show(b, store, bytes, n, out);
-    let next = p.bank;
     let len = bytes.len();
-    let count = p.count;
     if p.wrong {
-        return stream_end::close(next, number::WRONG_RECORD, len, out, count);
+        return stream_end::close(p.bank, Refusal::WrongRecord, len, out, p.count);
     }
     if (n == due) & (12 * n < len) {
-        return stream_end::close(next, number::WRONG_TABLE, len, out, count);
+        return stream_end::close(p.bank, Refusal::WrongTable, len, out, p.count);
     }
-    StreamTurn {
-        bank: next,
-        stage: Stage::Records(due - n),
-        used: 12 * n,
-        count: count,
-    }
+    StreamTurn { bank: p.bank, stage: Stage::Records(due - n), used: 12 * n, count: p.count }
 }

@@ -100,8 +100,9 @@ pub extern "C" fn thymewax_step(
 pub extern "C" fn thymewax_section(file: &[u8], i: u32, place: &mut [u32]) -> u32
     ensures { let h = section_in file.now i place.old in (result ≡ h.number) × (place.new ≡ h.place) }
 {
-    let number = trace::look_up(file, i);
-    let start = trace::section_start(file, i);
-    let records = trace::section(file, i);
-    host_parts::tell_place(number, start, records.len(), place)
+    let r = match trace::look_up(file, i) {
+        Ok(r) => r,
+        Err(why) => return u32::from(why),
+    };
+    host_parts::tell_place(0, r.start as u32, file[r].len(), place)
 }

@@ -64,7 +64,7 @@ pub extern "C" fn replay_each(cap: u32, store: &mut [u32], file: &[u8], last: &m
     ensures { timed result store.new last.new ≡ timed_of cap store.old file.now last.old }
 {
     let bank = timing::fresh(cap);
-    let records = trace::section(file, 0);
+    let records = trace::section(file, 0).unwrap_or(&[]);
     // All of them: no section has more records than its file has bytes.
     let n = record::whole(file.len(), records);
     let told = replay_records(bank, store, records, n);

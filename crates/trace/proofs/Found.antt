@@ -1,28 +1,22 @@
--- What the number of a look-up tells of the section.
-use Prim.Native.Nat.{ℕ, ◌+◌, ◌-◌, ◌*◌, ◌≤◌}
-use mathlib.Core.Path.{◌≡◌, sym, ◌∙◌}
-use mathlib.Core.List.{List, []}
+-- Where a section lies that a look-up finds.
+use Prim.Native.Nat.{ℕ, ◌+◌, ◌-◌, ◌*◌, ◌<◌, ◌≤◌}
+use native.Mathlib.Omega.{arith}
+use mathlib.Core.Path.{◌≡◌}
+use mathlib.Core.List.{List}
 use lib.ListN.{length, take, drop}
-use Rattle.trace_model.specs.Format.{start_at, count_at, look_number, section_start, section}
-use Rattle.trace_model.proofs.Sections.{refused, entry, handed, handed_part}
+use borrow.Author.Tests.{lt-ltb}
+use Rattle.trace_model.specs.Format.{sections, start_at, count_at, fault, look_number, section_start, section}
+use Rattle.trace_model.proofs.Table.{sound}
+use Rattle.trace_model.proofs.Sections.{handed_part}
 
--- no section where the number is not 0; else the stretch of its entry in the table
-module _ (file : List ℕ) (i x : ℕ) (is : x ≡ look_number file i) where
-  pub none_handed : (x ≡ 0 → ⊥) → [] ≡ section file i
-  none_handed h = (refused file i x is h).0
+module _ (file : List ℕ) (i : ℕ) (right : fault file ≡ 0) (inside : i < sections file) where
+  pub no_number : look_number file i ≡ 0
+  unfolding look_number
+  no_number = rw (right, lt-ltb i (sections file) inside)
 
-  pub none_starts : (x ≡ 0 → ⊥) → 0 ≡ section_start file i
-  none_starts h = (refused file i x is h).1
-
-  pub entry_there : x ≡ 0 → 14 + 8 * i ≤ length file
-  entry_there z = entry file i (sym is ∙ z)
-
-  pub starts : (start : ℕ) → x ≡ 0 → start ≡ start_at file i → start ≡ section_start file i
-  starts start z e = e ∙ (handed file i (sym is ∙ z)).1
-
-  module _ (start count end : ℕ) (z : x ≡ 0) (s : start ≡ start_at file i) (n : count ≡ count_at file i) (e : end ≡ start + 12 * count) where
-    pub part_there : end ≤ length file
-    part_there = (handed_part file i start count end (sym is ∙ z) s n e).0
-
-    pub part_handed : take (end - start) (drop start file) ≡ section file i
-    part_handed = (handed_part file i start count end (sym is ∙ z) s n e).1
+  pub found : (start count end : ℕ) → start ≡ start_at file i → count ≡ count_at file i → end ≡ start + 12 * count
+      → (start ≡ section_start file i) × (start ≤ end) × (end ≤ length file) × (end ≤ 0x1000000) × (take (end - start) (drop start file) ≡ section file i)
+  found start count end s n e =
+      let z = handed_part file i start count end no_number s n e in
+      let size = (sound file right).size in
+      (z.2, omega arith, z.0, omega (arith, z.0), z.1)

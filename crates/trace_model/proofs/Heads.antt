@@ -9,6 +9,7 @@ use lib.Dec.{ltb, leb}
 use lib.ListN.{length}
 use borrow.Author.Tests.{lt-ltb, le-ltb, le-leb, lt-leb, leb-true, ltb-false, not-true, not-false}
 use Rattle.trace_model.specs.declared.Head.{Head}
+use Rattle.number.specs.declared.Refusal.TheVariants.{WrongMark, WrongTable}
 use Rattle.trace_model.specs.declared.Head.TheVariants.{More, Wrong, Right}
 use Rattle.trace_model.specs.Format.{mark, begins_with, sections, records, section_place, starts_right}
 use Rattle.trace_model.specs.Head.{head_length, table_told, count_told, head_of}
@@ -20,13 +21,13 @@ and_false false = refl
 
 module _ (bytes : List ℕ) (n : ℕ) (is : n ≡ sections bytes) where
   abbrev table : ℕ → Head
-  table k = cond (starts_right bytes k && leb (section_place bytes k) 0x1000000) (Right (6 + 8 * k) (records bytes k)) (Wrong 25)
+  table k = cond (starts_right bytes k && leb (section_place bytes k) 0x1000000) (Right (6 + 8 * k) (records bytes k)) (Wrong WrongTable)
 
-  pub starts_wrong : (r : Bool) → r ≡ starts_right bytes n → not r ≡ true → Wrong 25 ≡ table_told bytes
+  pub starts_wrong : (r : Bool) → r ≡ starts_right bytes n → not r ≡ true → Wrong WrongTable ≡ table_told bytes
   starts_wrong r e f = rw (sym is, sym e, not-true r f)
 
-  pub too_large : (end : ℕ) → end ≡ section_place bytes n → 0x1000000 < end → Wrong 25 ≡ table_told bytes
-  too_large end e h = let y : Wrong 25 ≡ table n = rw (sym e, lt-leb _ _ h, and_false (starts_right bytes n)) in y ∙ ap table is
+  pub too_large : (end : ℕ) → end ≡ section_place bytes n → 0x1000000 < end → Wrong WrongTable ≡ table_told bytes
+  too_large end e h = let y : Wrong WrongTable ≡ table n = rw (sym e, lt-leb _ _ h, and_false (starts_right bytes n)) in y ∙ ap table is
 
   pub table_right_lem : (r : Bool) (end k : ℕ) → r ≡ starts_right bytes n → not r ≡ false → end ≡ section_place bytes n → end ≤ 0x1000000 → k ≡ (end - (6 + 8 * n)) / 12
       → Right (6 + 8 * n) k ≡ table_told bytes
@@ -36,13 +37,13 @@ module _ (bytes : List ℕ) (n : ℕ) (is : n ≡ sections bytes) where
       ap (Right (6 + 8 * n)) z ∙ y ∙ ap table is
 
   abbrev count : ℕ → Head
-  count k = cond (leb 1 k && leb k 64) (cond (ltb (length bytes) (6 + 8 * k)) More (table_told bytes)) (Wrong 25)
+  count k = cond (leb 1 k && leb k 64) (cond (ltb (length bytes) (6 + 8 * k)) More (table_told bytes)) (Wrong WrongTable)
 
-  pub too_few : n < 1 → Wrong 25 ≡ count_told bytes
-  too_few h = let y : Wrong 25 ≡ count n = rw (lt-leb _ _ h) in y ∙ ap count is
+  pub too_few : n < 1 → Wrong WrongTable ≡ count_told bytes
+  too_few h = let y : Wrong WrongTable ≡ count n = rw (lt-leb _ _ h) in y ∙ ap count is
 
-  pub too_many : 64 < n → Wrong 25 ≡ count_told bytes
-  too_many h = let y : Wrong 25 ≡ count n = rw (lt-leb _ _ h, and_false (leb 1 n)) in y ∙ ap count is
+  pub too_many : 64 < n → Wrong WrongTable ≡ count_told bytes
+  too_many h = let y : Wrong WrongTable ≡ count n = rw (lt-leb _ _ h, and_false (leb 1 n)) in y ∙ ap count is
 
   pub table_short : 1 ≤ n → n ≤ 64 → length bytes < 6 + 8 * n → More ≡ count_told bytes
   table_short l m h = let y : More ≡ count n = rw (le-leb _ _ l, le-leb _ _ m, lt-ltb _ _ h) in y ∙ ap count is
@@ -54,7 +55,7 @@ module _ (bytes : List ℕ) where
   pub mark_cut : length bytes < 4 → More ≡ head_of bytes
   mark_cut h = rw (lt-ltb _ _ h)
 
-  pub mark_wrong : (m : Bool) → 4 ≤ length bytes → m ≡ begins_with mark bytes → not m ≡ true → Wrong 24 ≡ head_of bytes
+  pub mark_wrong : (m : Bool) → 4 ≤ length bytes → m ≡ begins_with mark bytes → not m ≡ true → Wrong WrongMark ≡ head_of bytes
   mark_wrong m h e f = rw (le-ltb _ _ h, sym e, not-true m f)
 
   pub count_cut : (m : Bool) → 4 ≤ length bytes → m ≡ begins_with mark bytes → not m ≡ false → length bytes < 6 → More ≡ head_of bytes
@@ -79,11 +80,11 @@ length_in (Wrong n) = 0
 length_in (Right n k) = n
 
 module _ (bytes : List ℕ) where
-  told_more : (b : Bool) (n k : ℕ) → is_more (cond b (Right n k) (Wrong 25)) ≡ false
+  told_more : (b : Bool) (n k : ℕ) → is_more (cond b (Right n k) (Wrong WrongTable)) ≡ false
   told_more true n k = refl
   told_more false n k = refl
 
-  told_length : (b : Bool) (n k : ℕ) → n ≤ length bytes → length_in (cond b (Right n k) (Wrong 25)) ≤ length bytes
+  told_length : (b : Bool) (n k : ℕ) → n ≤ length bytes → length_in (cond b (Right n k) (Wrong WrongTable)) ≤ length bytes
   told_length true n k h = h
   told_length false n k h = omega arith
 

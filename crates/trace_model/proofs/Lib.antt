@@ -1,3 +1,4 @@
+pub mod Refused
 pub mod Table
 pub mod Sections
 pub mod Worked

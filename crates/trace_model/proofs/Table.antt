@@ -2,12 +2,14 @@
 use Prim.Native.Nat.{ℕ, ◌+◌, ◌*◌, ◌<◌, ◌≤◌}
 use native.Mathlib.Numerals.{add-one}
 use native.Mathlib.Omega.{arith}
-use mathlib.Core.Path.{◌≡◌, refl, sym, ap, subst}
+use mathlib.Core.Path.{◌≡◌, refl, sym, ap, ap₂, subst}
 use mathlib.Core.Bool.{Bool, true, false, cond, ◌&&◌, false≢true}
 use mathlib.Core.List.{List, [], ◌∷◌}
 use lib.Dec.{eqb, leb}
-use lib.ListN.{length, get_or}
-use borrow.Author.Tests.{leb-true, le-leb, eqb-true}
+use lib.ListN.{length}
+use borrow.Author.Tests.{leb-true, le-leb, eqb-true, eqb-false}
+use Rattle.std.specs.Prelude.{nat_eq}
+use Rattle.std.specs.List.{starts_with}
 use Rattle.trace_model.specs.Format.{mark, begins_with, sections, start_at, count_at, records, section_place, starts_right, table_right, fault}
 
 pub and-true : (a b : Bool) → (a && b) ≡ true → (a ≡ true) × (b ≡ true)
@@ -17,13 +19,6 @@ and-true false b e = absurd (false≢true e)
 not-true : (t : Bool) → (t ≡ true → ⊥) → t ≡ false
 not-true true h = absurd (h refl)
 not-true false h = refl
-
-four : (a b c d : Bool) → (a && (b && (c && (d && true)))) ≡ (a && b && c && d)
-four false b c d = refl
-four true false c d = refl
-four true true false d = refl
-four true true true false = refl
-four true true true true = refl
 
 opens_length : (m file : List ℕ) → begins_with m file ≡ true → length m ≤ length file
 opens_length [] file e = omega arith
@@ -35,13 +30,20 @@ opens_length (x ∷ m) (b ∷ file) e =
 pub mark_short : (file : List ℕ) → length file < 4 → false ≡ begins_with mark file
 mark_short file h = sym (not-true (begins_with mark file) (λ e. let z = opens_length mark file e in omega arith))
 
-pub mark_bytes : (file : List ℕ) → 4 ≤ length file
-    → (eqb (get_or file 0 0) 0x49 && eqb (get_or file 1 0) 0x33 && eqb (get_or file 2 0) 0x54 && eqb (get_or file 3 0) 0x52) ≡ begins_with mark file
-mark_bytes [] h = absurd (omega arith)
-mark_bytes (a ∷ []) h = absurd (omega arith)
-mark_bytes (a ∷ b ∷ []) h = absurd (omega arith)
-mark_bytes (a ∷ b ∷ c ∷ []) h = absurd (omega arith)
-mark_bytes (a ∷ b ∷ c ∷ d ∷ file) h = sym (four (eqb a 0x49) (eqb b 0x33) (eqb c 0x54) (eqb d 0x52))
+eqb_turned : (a b : ℕ) → eqb a b ≡ eqb b a
+eqb_turned a b = go (eqb a b) (eqb b a) refl refl
+  where
+    go : (t u : Bool) → eqb a b ≡ t → eqb b a ≡ u → t ≡ u
+    go true true e f = refl
+    go true false e f = absurd (eqb-false b a f (sym (eqb-true a b e)))
+    go false true e f = absurd (eqb-false a b e (sym (eqb-true b a f)))
+    go false false e f = refl
+
+-- the library's test
+pub opens : (m file : List ℕ) → starts_with nat_eq file m ≡ begins_with m file
+opens [] file = refl
+opens (x ∷ m) [] = refl
+opens (x ∷ m) (b ∷ file) = ap₂ ◌&&◌ (eqb_turned x b) (opens m file)
 
 pub records_next : (file : List ℕ) (i : ℕ) → records file (i + 1) ≡ records file i + count_at file i
 unfolding records

@@ -3,13 +3,15 @@
 // code is the type of what the first bytes tell.
 #![tactic(auto)]
 
+use number::Refusal;
+
 // What the first bytes of a file tell.
 #[derive(Clone, Copy)]
 pub enum Head {
     // More must come.
     More,
-    // The file is refused with this number.
-    Wrong(u32),
+    // The file is refused.
+    Wrong(Refusal),
     // How long mark and table are, and how many records follow.
     Right(usize, usize),
 }

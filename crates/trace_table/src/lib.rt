@@ -3,17 +3,17 @@
 #![tactic(auto)]
 
 ghost use Rattle.std.specs.Prelude.{◌≡◌, ◌+◌, ◌*◌, ◌<◌, ◌≤◌, length};
+ghost use Rattle.number.specs.Refusals.{told};
 ghost use Rattle.trace_model.specs.Format.{mark, begins_with, sections, start_at, count_at, section_place, starts_right, table_right, fault};
 
+use number::Refusal;
+
 // Whether the file opens with the mark.
+#[tactic(auto, using(trace_model::proofs::Table::opens))]
 pub fn marked(file: &[u8]) -> bool
     ensures { result ≡ begins_with mark file.now }
 {
-    let mark = b"I3TR";
-    if file.len() < 4 {
-        return false;
-    }
-    (file[0] == mark[0]) & (file[1] == mark[1]) & (file[2] == mark[2]) & (file[3] == mark[3])
+    file.starts_with(b"I3TR")
 }
 
 // The start and the record count of a section, out of the table.
@@ -36,10 +36,10 @@ pub fn past(start: u64, records: u32) -> u64
     requires { start < 281474976710656 }
     ensures { result ≡ start + 12 * records }
 {
-    start + 12 * (records as u64)
+    start + 12 * u64::from(records)
 }
 
-// Whether the starts of a table are right, and where its last section ends.
+// Whether the starts of a table are right, and where its last section ends: also where they are not, so no `Option`.
 #[derive(Clone, Copy)]
 pub struct Walked {
     pub right: bool,
@@ -53,15 +53,12 @@ pub fn walk(file: &[u8], n: u32) -> Walked
     ensures { (result.right ≡ starts_right file.now n) × (result.end ≡ section_place file.now n) }
 {
     let mut right = true;
-    let mut at: u64 = 6 + 8 * (n as u64);
+    let mut end = 6 + 8 * u64::from(n);
     for i in 0..n {
-        right = right & (start_at(file, i) as u64 == at);
-        at = past(at, count_at(file, i));
+        right &= u64::from(start_at(file, i)) == end;
+        end = past(end, count_at(file, i));
     }
-    Walked {
-        right: right,
-        end: at,
-    }
+    Walked { right, end }
 }
 
 // Whether the table is whole and right, and the file ends where it says.
@@ -72,11 +69,8 @@ fn table_right(file: &[u8]) -> bool
     if file.len() < 6 {
         return false;
     }
-    let n = little_endian::two_at(file, 4);
-    if n < 1 {
-        return false;
-    }
-    if 64 < n {
+    let n = u32::from(little_endian::two_at(file, 4));
+    if !(1..=64).contains(&n) {
         return false;
     }
     if file.len() < 6 + 8 * (n as usize) {
@@ -86,16 +80,16 @@ fn table_right(file: &[u8]) -> bool
     t.right & (t.end == file.len() as u64) & (file.len() <= 0x100_0000)
 }
 
-// The number of the file as a whole: 24, 25, or 0 (`trace.refused`).
+// What is wrong with the file as a whole: 24, or 25 (`trace.refused`).
 #[tactic(auto, unfolding(trace_model::specs::Format::fault))]
-pub fn fault(file: &[u8]) -> u32
-    ensures { result ≡ fault file.now }
+pub fn check(file: &[u8]) -> Result<(), Refusal>
+    ensures { told result ≡ fault file.now }
 {
     if !marked(file) {
-        return number::WRONG_MARK;
+        return Err(Refusal::WrongMark);
     }
     if !table_right(file) {
-        return number::WRONG_TABLE;
+        return Err(Refusal::WrongTable);
     }
-    0
+    Ok(())
 }

@@ -27,8 +27,8 @@ returns-in-Some c =
     let k = kept a.image.now a.flags.now a.commands.now a.payloads.now in
     let b = said_by_parts k _ _ c.state_in-s.ensures c.heads_in-h.ensures in
     let t = formed_kept k c.requires.1 c.requires.2 ∙ ap well_formed (sym b) ∙ sym (c.if-not-parts_formed.ensures a.payloads.now) in
-    let s = ap (λ (x : Bank). step rings (controller x a.store.now a.output.now) c.in-Named.c) b in
-    c.make.ensures ∙ ap packed_step (one_call k a.store.now a.output.now q c.in-Named.c _ t (sym c.in-Named.ensures) s)
+    let s = ap (λ (x : Bank). step rings (controller x a.store.now a.output.now) c.in-Some.c) b in
+    c.make.ensures ∙ ap packed_step (one_call k a.store.now a.output.now q c.in-Some.c _ t (sym c.in-Some.ensures) s)
 
 pub returns-in-None : goal.returns-in-None
 returns-in-None c =

@@ -1,7 +1,7 @@
 -- A look-up that is refused.
-use Rattle.std.proofs.Common.{◌∙◌}
-use Rattle.playback_model.proofs.Laws.{refuses}
+use Rattle.std.proofs.Common.{refl, ◌∙◌}
+use Rattle.playback_model.proofs.Laws.{refuses_by}
 use Rattle.playback.proofs.replay.Goals as goal
 
-pub returns-then-number-ne0 : goal.returns-then-number-ne0
-returns-then-number-ne0 c = c.refused.ensures _ ∙ refuses _ _ _ _ _ c.look_up-number.ensures c.if-number-ne0.true
+pub returns-in-Err : goal.returns-in-Err
+returns-in-Err c = c.refused.ensures _ ∙ refuses_by _ _ _ _ _ _ refl c.in-Err.ensures.number

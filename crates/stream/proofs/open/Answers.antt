@@ -7,8 +7,8 @@ pub returns-in-Wrong : goal.returns-in-Wrong
 returns-in-Wrong c =
     (head_wrong _ _ c.read_head.ensures _ _ _ _ c.in-Wrong.is (c.close.ensures.0 _), (omega arith, omega arith, omega arith))
 
-pub returns : goal.returns
-returns c =
+pub returns-in-Right : goal.returns-in-Right
+returns-in-Right c =
     let a = c.args in
     let r = c.in-Right in
     let y = c.feed_records-f in

@@ -6,4 +6,4 @@ use Rattle.stream_lines.proofs.show.Goals as goal
 pub returns : goal.returns
 returns c =
     let y = c.show_parts-y in
-    (no_output _ _ y.result _ _ _ _ _ _ (c.shown_of.ensures.0 _ _) (omega arith) y.ensures.0, omega arith)
+    (no_output _ y.result _ _ _ _ _ _ (omega arith) y.ensures.0, y.ensures.1)

@@ -15,7 +15,7 @@ returns-in_default c =
 pub loop-i-preserved : goal.loop-i-preserved
 loop-i-preserved c = record {
   lent = output_kept _ _ _ _ c.step_once-out.ensures c.loop-i.invariant.lent;
-  left = record_done _ _ _ _ _ c.step_once-out.ensures c.args.n c.loop-i.i c.args.records.now _ _ c.at-named.result c.loop-i-test.true c.at-named.ensures c.in-Named.is c.loop-i.invariant.left;
+  left = record_done _ _ _ _ _ c.step_once-out.ensures c.args.n c.loop-i.i c.args.records.now _ _ c.at-named.result c.loop-i-test.true c.at-named.ensures c.in-Some.is c.loop-i.invariant.left;
 }
 
 pub returns : goal.returns

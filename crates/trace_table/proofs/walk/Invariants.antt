@@ -6,6 +6,6 @@ use Rattle.trace_table.proofs.walk.Given as goal
 abbrev pub invariant-loop-i : goal.invariant-loop-i
 invariant-loop-i l = record {
   right : l.right ≡ starts_right l.file l.i;
-  place : l.at ≡ section_place l.file l.i;
-  bound : l.at ≤ 518 + 51539607552 * l.i;
+  place : l.end ≡ section_place l.file l.i;
+  bound : l.end ≤ 518 + 51539607552 * l.i;
 }

@@ -2,10 +2,10 @@
 use Prim.Native.Nat.{ℕ, ◌<◌}
 use native.Mathlib.Omega.{arith}
 use mathlib.Core.Path.{◌≡◌, refl, ap, sym}
-use mathlib.Core.Bool.{Bool, true, false, cond, ◌&&◌, true≢false}
+use mathlib.Core.Bool.{Bool, true, false, cond, ◌&&◌}
 use mathlib.Core.List.{[]}
 use lib.Dec.{leb}
-use borrow.Author.Tests.{ne_eqb, le-ltb, leb-false, leb-true}
+use borrow.Author.Tests.{ne_eqb, le-ltb, leb-true}
 use Rattle.bank.proofs.Bools.{and-true}
 use Rattle.model.specs.declared.Call.TheVariants.{Trigger}
 use Rattle.std.specs.Prelude.{Option, Some, None}
@@ -52,13 +52,11 @@ module _ (l o v w : ℕ) where
   recorded e = rw e refl
 
   -- numbers that fit no record
-  pub unfit : (leb l 255 && leb o 65535) ≡ false → None ≡ named_in (form_of l) (rec l 0 o v w)
-  unfit e = go (leb l 255) refl (leb o 65535) refl e
-    where
-      go : (a : Bool) → leb l 255 ≡ a → (b : Bool) → leb o 65535 ≡ b → (a && b) ≡ false → None ≡ named_in (form_of l) (rec l 0 o v w)
-      go false x b y e = sym (ap (λ (f : Option Form). named_in f (rec l 0 o v w)) (no_letter l (leb-false l 255 x)))
-      go true x false y e = sym (no_offset (form_of l) l o v w (leb-false o 65535 y))
-      go true x true y e = absurd (true≢false e)
+  pub past_letters : 255 < l → None ≡ named_in (form_of l) (rec l 0 o v w)
+  past_letters h = sym (ap (λ (f : Option Form). named_in f (rec l 0 o v w)) (no_letter l h))
+
+  pub past_offsets : 65535 < o → None ≡ named_in (form_of l) (rec l 0 o v w)
+  past_offsets h = sym (no_offset (form_of l) l o v w h)
 
   -- and those that do, written and read again
   pub written : (leb l 255 && leb o 65535) ≡ true → v < 0x100000000 → w < 0x100000000 → record_at (record_bytes (rec l 0 o v w)) 0 ≡ named_in (form_of l) (rec l 0 o v w)

@@ -34,7 +34,7 @@ use Rattle.playback_model.proofs.IllFormed.{ill_formed_replay}
 use Rattle.image_model.specs.Image.{Kept, kept_of, bank_in, is_kept}
 use Rattle.image_model.specs.Laws.{TakenIsKept}
 use Rattle.image_model.proofs.Laws.{taken_is_kept}
-use Rattle.host_model.specs.Host.{triggers, hosted, refusal, step_in, Replayed, bank_for, kept_after, tells, told_in, left_by, replay_in, section_in}
+use Rattle.host_model.specs.Host.{triggers, hosted, step_in, Replayed, bank_for, kept_after, tells, told_in, left_by, replay_in, section_in}
 use Rattle.host_model.specs.Laws.{CalledIsNamed, NotKeptIsRefused, RefusedStays, RefusedSilent, RefusedReplayStays, RefusedSectionStays, DoneIsTold, FoundIsPlaced, NothingCut}
 use Rattle.host_model.proofs.Calling.{recorded, triggered}
 use Rattle.host_model.proofs.Hosting.{no_bank, untold, is_told, is_placed}

@@ -3,14 +3,13 @@ use Prim.Native.Nat.{ℕ}
 use mathlib.Core.Path.{◌≡◌, refl, ap, sym, ◌∙◌}
 use mathlib.Core.Bool.{Bool, true, false}
 use mathlib.Core.List.{List, []}
-use lib.ListN.{replicate}
 use Rattle.bank.specs.declared.Bank.{Bank}
-use Rattle.bank.specs.Formed.{queues_ok, well_formed}
+use Rattle.bank.specs.Formed.{well_formed}
 use Rattle.answer.specs.Given.{controller}
 use Rattle.playback_model.specs.Replay.{Replay, replay_of}
 use Rattle.playback_model.specs.Done.{IllFormedReplay}
 use Rattle.playback_model.proofs.IllFormed.{ill_formed_replay}
-use Rattle.image_model.specs.Image.{Kept, kept, kept_of, bank_in, encoded, sized, is_kept}
+use Rattle.image_model.specs.Image.{Kept, kept_of, bank_in, encoded, sized, is_kept}
 use Rattle.image_model.proofs.Laws.{words_back}
 use Rattle.host_model.specs.Host.{Replayed, told_in, replay_in}
 use Rattle.host_model.specs.Laws.{NotKeptIsRefused}

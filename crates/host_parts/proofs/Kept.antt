@@ -1,25 +1,13 @@
--- What is kept, by its parts: what the test of its lengths says, what is kept of a bank, the bank that is said, and what a refusal gives.
+-- What is kept, by its parts: what is kept of a bank, the bank that is said, and what a refusal gives.
 use Prim.Native.Nat.{ℕ}
-use mathlib.Core.Path.{◌≡◌, refl, ap, ◌∙◌}
-use mathlib.Core.Bool.{true, false, ◌&&◌}
+use mathlib.Core.Path.{◌≡◌, ap, ◌∙◌}
 use mathlib.Core.List.{List}
-use lib.Dec.{eqb}
-use lib.ListN.{length}
-use borrow.Author.Tests.{eqb-true}
 use Rattle.bank.specs.declared.Bank.{Bank}
 use Rattle.bank.specs.declared.State.{State}
 use Rattle.bank.specs.Fives.{Heads}
-use Rattle.bank.proofs.Bools.{and-true}
-use Rattle.image_model.specs.Image.{size, image_of, state_in, heads_in, Kept, kept, kept_of, bank_in, sized, is_kept}
+use Rattle.image_model.specs.Image.{image_of, state_in, heads_in, Kept, kept, kept_of, bank_in}
 use Rattle.host_model.specs.Host.{Hosted, packed_of, refusal}
 use Rattle.host_parts.specs.Lent.{loan, gave, packed_step}
-
-pub long : (k : Kept) → sized k ≡ true → length k.image ≡ size
-long k s = eqb-true (length k.image) size (and-true (eqb (length k.image) size) (eqb (length k.flags) 128 && (eqb (length k.commands) 16 && eqb (length k.payloads) 16)) s).0
-
-pub not_kept : (k : Kept) → sized k ≡ false → is_kept k ≡ false
-unfolding is_kept
-not_kept k s = rw s refl
 
 pub kept_bank : (ws : List ℕ) (b : Bank) → ws ≡ image_of b.state b.heads → kept ws b.flags b.commands b.payloads ≡ kept_of b
 unfolding kept_of

@@ -1,3 +1,2 @@
-pub mod Heads
 pub mod Given
-pub mod Said
+pub mod Zeros

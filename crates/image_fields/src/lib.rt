@@ -1,14 +1,15 @@
 // A state and its heads out of the words of an image. Layers, no interface.
 #![tactic(auto)]
 
-ghost use Rattle.std.specs.Prelude.{◌≡◌, ◌+◌, ◌≤◌, length};
+ghost use Rattle.std.specs.Prelude.{◌≡◌, ◌+◌, ◌≤◌, ◌<◌};
 ghost use Rattle.image_model.specs.Image.{size, counts_in, heads_in, byte_in, bit_in, kind_in, transfer_in, phase_in, regs_in, latest_in, control_in, state_in};
 
 use bank::{Control, Counts, Heads, Kind, Latest, Phase, Regs, State, Transfer};
+use image_model::Image;
 use ring::{Bytes, Words};
 
-fn counts_in(image: &[u32], at: usize) -> Counts
-    requires { at + 17 ≤ length image.now }
+fn counts_in(image: &Image, at: usize) -> Counts
+    requires { at + 17 ≤ size }
     ensures { result ≡ counts_in image.now at }
 {
     Counts {
@@ -20,8 +21,7 @@ fn counts_in(image: &[u32], at: usize) -> Counts
     }
 }
 
-pub fn heads_in(image: &[u32]) -> Heads
-    requires { length image.now ≡ size }
+pub fn heads_in(image: &Image) -> Heads
     ensures { result ≡ heads_in image.now }
 {
     Heads {
@@ -33,15 +33,15 @@ pub fn heads_in(image: &[u32]) -> Heads
     }
 }
 
-fn byte_in(image: &[u32], at: usize) -> u8
-    requires { at + 1 ≤ length image.now }
+fn byte_in(image: &Image, at: usize) -> u8
+    requires { at < size }
     ensures { result ≡ byte_in image.now at }
 {
     (image[at] % 256) as u8
 }
 
-fn bit_in(image: &[u32], at: usize) -> bool
-    requires { at + 1 ≤ length image.now }
+fn bit_in(image: &Image, at: usize) -> bool
+    requires { at < size }
     ensures { result ≡ bit_in image.now at }
 {
     image[at] == 1
@@ -70,11 +70,9 @@ fn phase_in(n: u32, t: Transfer) -> Phase
     }
 }
 
-fn regs_in(image: &[u32]) -> Regs
-    requires { length image.now ≡ size }
+fn regs_in(image: &Image) -> Regs
     ensures { result ≡ regs_in image.now }
 {
-    let marks = counts_in(image, 1);
     Regs {
         id: byte_in(image, 20),
         scratch: image[21],
@@ -82,12 +80,11 @@ fn regs_in(image: &[u32]) -> Regs
         ops: byte_in(image, 23),
         config: byte_in(image, 24),
         selected: byte_in(image, 25),
-        marks: marks,
+        marks: counts_in(image, 1),
     }
 }
 
-fn latest_in(image: &[u32]) -> Latest
-    requires { length image.now ≡ size }
+fn latest_in(image: &Image) -> Latest
     ensures { result ≡ latest_in image.now }
 {
     Latest {
@@ -97,11 +94,9 @@ fn latest_in(image: &[u32]) -> Latest
     }
 }
 
-fn control_in(image: &[u32]) -> Control
-    requires { length image.now ≡ size }
+fn control_in(image: &Image) -> Control
     ensures { result ≡ control_in image.now }
 {
-    let latest = latest_in(image);
     Control {
         held: bit_in(image, 26),
         sync: byte_in(image, 27),
@@ -110,17 +105,15 @@ fn control_in(image: &[u32]) -> Control
         ibipending: bit_in(image, 30),
         daapending: bit_in(image, 31),
         burst: byte_in(image, 32),
-        latest: latest,
+        latest: latest_in(image),
     }
 }
 
-fn transfer_in(image: &[u32]) -> Transfer
-    requires { length image.now ≡ size }
+fn transfer_in(image: &Image) -> Transfer
     ensures { result ≡ transfer_in image.now }
 {
-    let k = kind_in(image[37]);
     Transfer {
-        kind: k,
+        kind: kind_in(image[37]),
         header: bit_in(image, 38),
         length: Bytes(image[39]),
         moved: Bytes(image[40]),
@@ -129,21 +122,14 @@ fn transfer_in(image: &[u32]) -> Transfer
     }
 }
 
-pub fn state_in(image: &[u32]) -> State
-    requires { length image.now ≡ size }
+pub fn state_in(image: &Image) -> State
     ensures { result ≡ state_in image.now }
 {
-    let k = counts_in(image, 0);
-    let l = counts_in(image, 3);
-    let g = regs_in(image);
-    let c = control_in(image);
-    let t = transfer_in(image);
-    let p = phase_in(image[36], t);
     State {
-        caps: k,
-        levels: l,
-        regs: g,
-        control: c,
-        phase: p,
+        caps: counts_in(image, 0),
+        levels: counts_in(image, 3),
+        regs: regs_in(image),
+        control: control_in(image),
+        phase: phase_in(image[36], transfer_in(image)),
     }
 }

@@ -10,12 +10,20 @@ use lib.Dec.{eqb, leb}
 use lib.ListN.{length, get_or, drop, drop_of_length-le}
 use lib.Seq.{drop-cons}
 use borrow.Author.Tests.{eqb-true, eqb-false, leb-true, leb-false, eq-eqb, ne_eqb, le-leb, lt-leb}
+use Rattle.std.proofs.Math.Bool.{and_assoc}
+use Rattle.std.specs.List.{list_all}
 use Rattle.ring.specs.Units.{bytes}
 use Rattle.bank.specs.declared.Transfer.{Transfer}
 use Rattle.bank.specs.declared.Phase.{Phase}
 use Rattle.bank.specs.Bits.{word_if}
 use Rattle.image_model.specs.Image.{kind_number, phase_words, kind_in, phase_in, same, encoded, state_in, heads_in, image_of}
 use Rattle.image_model.proofs.Numbers.{answered_in}
+
+-- ── Tests in another order ────────────────────────────────────────────────────────────────────────────────────
+swap : (a b c : Bool) → (a && (b && c)) ≡ (b && (a && c))
+swap true b c = refl
+swap false true c = refl
+swap false false c = refl
 
 -- ── A field ───────────────────────────────────────────────────────────────────────────────────────────────────
 pub itself : (w : ℕ) → eqb w w ≡ true
@@ -69,10 +77,10 @@ module _ (k a l m b p : ℕ) where
   abbrev pub phase_test : ℕ → Bool
   phase_test at = same (at ∷ k ∷ a ∷ l ∷ m ∷ b ∷ p ∷ []) (phase_words (phase_in at transfer_of))
 
-  pub idle_test : (at : ℕ) → at ≡ 0 → (eqb k 0 && (eqb a 0 && (eqb l 0 && (eqb m 0 && (eqb b 0 && eqb p 0))))) ≡ phase_test at
+  pub idle_test : (at : ℕ) → at ≡ 0 → (eqb k 0 && eqb a 0 && eqb l 0 && eqb m 0 && eqb b 0 && eqb p 0) ≡ phase_test at
   idle_test at e =
-      subst (λ (n : ℕ). (eqb k 0 && (eqb a 0 && (eqb l 0 && (eqb m 0 && (eqb b 0 && eqb p 0))))) ≡ phase_test n) (sym e)
-      (ap (λ (t : Bool). eqb k 0 && (eqb a 0 && (eqb l 0 && (eqb m 0 && (eqb b 0 && t))))) (sym (and-true (eqb p 0))))
+      subst (λ (n : ℕ). (eqb k 0 && eqb a 0 && eqb l 0 && eqb m 0 && eqb b 0 && eqb p 0) ≡ phase_test n) (sym e)
+      (simp (and_assoc, and-true) refl)
 
   -- the words of the transfer
   abbrev fields : Bool
@@ -140,6 +148,9 @@ from_is : (n i : ℕ) (ws : List ℕ) → i + n ≡ length ws → from n i ws �
 from_is zero i ws e = sym (drop_of_length-le ws {i = i} (omega (arith, e)))
 from_is (suc n) i ws e = ap (λ (l : List ℕ). get_or ws i 0 ∷ l) (from_is n (suc i) ws (omega (arith, e))) ∙ sym (drop-cons ws i 0 (omega (arith, e)))
 
+reorder : (a b c d e f g h i j k l p : Bool) → ((a && (b && (c && (d && (e && (g && (h && (l && true)))))))) && (f && (i && (j && (k && true)))) && p) ≡ (a && (b && (c && (d && (e && (f && (g && (h && (i && (j && (k && (l && p))))))))))))
+reorder a b c d e f g h i j k l p = simp (and_assoc, and-true, swap f g, swap f h, swap f l, swap i l, swap j l, swap k l) refl
+
 module _ (ws : List ℕ) where
   abbrev w : ℕ → ℕ
   w i = get_or ws i 0
@@ -150,14 +161,25 @@ module _ (ws : List ℕ) where
   abbrev bit : ℕ → Bool
   bit i = eqb (w i) (word_if (eqb (w i) 1) 1)
 
-  -- the tests of the fields, in the order of their words
+  -- the tests of the fields: of bytes, of bits, and of the phase
   abbrev pub field_tests : Bool
   field_tests =
+      list_all (λ x. leb x 255) (w 20 ∷ w 22 ∷ w 23 ∷ w 24 ∷ w 25 ∷ w 27 ∷ w 28 ∷ w 32 ∷ [])
+      && list_all (λ x. leb x 1) (w 26 ∷ w 29 ∷ w 30 ∷ w 31 ∷ [])
+      && phase_test (w 37) (w 38) (w 39) (w 40) (w 41) (w 42) (w 36)
+
+  -- in the order of their words
+  abbrev in_order : Bool
+  in_order =
       byte 20 && (byte 22 && (byte 23 && (byte 24 && (byte 25 && (bit 26 && (byte 27 && (byte 28 && (bit 29 && (bit 30 && (bit 31 && (byte 32
       && phase_test (w 37) (w 38) (w 39) (w 40) (w 41) (w 42) (w 36))))))))))))
+
+  ordered : field_tests ≡ in_order
+  ordered = simp (byte_test, bit_test) (reorder (byte 20) (byte 22) (byte 23) (byte 24) (byte 25) (bit 26) (byte 27) (byte 28) (bit 29) (bit 30) (bit 31) (byte 32) _)
 
   pub encoded_by_fields : length ws ≡ 43 → field_tests ≡ encoded ws
   unfolding encoded
   encoded_by_fields n =
-      sym (simp itself refl)
+      ordered
+      ∙ sym (simp itself refl)
       ∙ ap (λ (l : List ℕ). same l (image_of (state_in ws) (heads_in ws))) (from_is 43 0 ws (sym n))

@@ -1,4 +1,3 @@
-pub mod Fill
 pub mod Numbers
 pub mod Words
 pub mod Encoded

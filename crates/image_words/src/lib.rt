@@ -1,24 +1,15 @@
 // A state and its heads as the words of an image. A layer, no interface.
 #![tactic(auto)]
 
-ghost use Rattle.std.specs.Prelude.{◌≡◌, length};
-ghost use Rattle.image_model.specs.Image.{size, kind_number, image_of};
+ghost use Rattle.std.specs.Prelude.{◌≡◌};
+ghost use Rattle.image_model.specs.Image.{image_of};
 
-use bank::{Heads, Kind, State};
+use bank::{Heads, State};
+use image_model::Image;
 
-fn kind_number(k: Kind) -> u32
-    ensures { result ≡ kind_number k }
-{
-    match k {
-        Kind::Private => 0,
-        Kind::Direct => 1,
-        Kind::Broadcast => 2,
-    }
-}
-
-// In the order of the definition's places.
-fn state_words(s: State, h: Heads) -> [u32; 43]
-    ensures { result ≡ image_of s h }
+// Written in the order of the definition's places.
+pub fn encode(s: State, h: Heads, image: &mut Image)
+    ensures { image.new ≡ image_of s h }
 {
     let n = s.caps;
     let l = s.levels;
@@ -28,8 +19,7 @@ fn state_words(s: State, h: Heads) -> [u32; 43]
     let w = c.latest;
     let p = s.phase;
     let t = phases::transfer_of(p);
-    let k = t.kind;
-    [
+    *image = [
         n.cmd.0,
         m.cmd.0,
         h.cmd,
@@ -50,40 +40,28 @@ fn state_words(s: State, h: Heads) -> [u32; 43]
         m.ibi.0,
         h.ibi,
         l.ibi.0,
-        g.id as u32,
+        u32::from(g.id),
         g.scratch,
-        g.mask as u32,
-        g.ops as u32,
-        g.config as u32,
-        g.selected as u32,
-        bank::select(c.held, 1, 0),
-        c.sync as u32,
-        c.ibisync as u32,
-        bank::select(c.cmdrpending, 1, 0),
-        bank::select(c.ibipending, 1, 0),
-        bank::select(c.daapending, 1, 0),
-        c.burst as u32,
+        u32::from(g.mask),
+        u32::from(g.ops),
+        u32::from(g.config),
+        u32::from(g.selected),
+        u32::from(c.held),
+        u32::from(c.sync),
+        u32::from(c.ibisync),
+        u32::from(c.cmdrpending),
+        u32::from(c.ibipending),
+        u32::from(c.daapending),
+        u32::from(c.burst),
         w.cmdr,
         w.sdi,
         w.ibi,
         phases::stage_of(p),
-        kind_number(k),
-        bank::select(t.header, 1, 0),
+        t.kind as u32,
+        u32::from(t.header),
         t.length.0,
         t.moved.0,
-        bank::select(t.attached, 1, 0),
+        u32::from(t.attached),
         t.part,
-    ]
-}
-
-// Written into an image, which has its length.
-#[tactic(auto, using(image_model::proofs::Fill::fill_next))]
-pub fn encode(s: State, h: Heads, image: &mut [u32])
-    requires { length image.old ≡ size }
-    ensures { image.new ≡ image_of s h }
-{
-    let ws = state_words(s, h);
-    for i in 0..43 {
-        image[i] = ws[i];
-    }
+    ];
 }

@@ -14,7 +14,7 @@ ghost use Rattle.plain_model.specs.PlainLaws.{headless, refused_plain};
 ghost use Rattle.plain_model.specs.FitsArea.{AllFitAreas};
 ghost use Rattle.plain.specs.Given.{plain_lent, plain_given, settled_step};
 
-use bank::{Answer, Bank, Heads};
+use bank::{Answer, Bank, Heads, State};
 use effect::Effect;
 use model::Call;
 use plain_model::{PlainBank, PlainOut};
@@ -34,15 +34,14 @@ pub fn step(b: PlainBank, store: &mut [u32], output: &mut [u32], call: Call) -> 
 pub fn without_heads(b: Bank) -> PlainBank
     ensures { result ≡ headless b }
 {
-    let s = b.state;
-    let f = b.flags;
-    let c = b.commands;
-    let p = b.payloads;
+    let flags = b.flags;
+    let commands = b.commands;
+    let payloads = b.payloads;
     PlainBank {
-        state: s,
-        flags: f,
-        commands: c,
-        payloads: p,
+        state: b.state,
+        flags,
+        commands,
+        payloads,
     }
 }
 
@@ -68,11 +67,13 @@ fn fault(b: PlainBank, len: usize) -> u32
 fn refuse(b: PlainBank, n: u32) -> PlainOut
     ensures { (s o : List ℕ) → plain_given result s o ≡ refused_plain (plain_lent b s o) n }
 {
-    let a = Answer {
-        value: 0,
-        number: n,
-    };
-    PlainOut { bank: b, answer: a }
+    PlainOut {
+        bank: b,
+        answer: Answer {
+            value: 0,
+            number: n,
+        },
+    }
 }
 
 // A call that passed the two tests: decided on the first words of the queues, then settled.
@@ -97,25 +98,20 @@ fn settle(b: PlainBank, store: &mut [u32], output: &mut [u32], e: Effect) -> Pla
     let mut flags = b.flags;
     let mut commands = b.commands;
     let mut payloads = b.payloads;
-    let entry = e.table;
-    table_entries::put_table(entry, &mut flags, &mut commands, &mut payloads, output);
-    let st = b.state;
-    let ops = e.ops;
-    let levels = plain_moves::move_all(ops, st.caps, st.levels, store);
-    let next = e.state;
-    let g = next.regs;
-    let c = next.control;
-    let p = next.phase;
-    let state = bank::state_with(st.caps, levels, g, c, p);
-    let bank = PlainBank {
-        state: state,
-        flags: flags,
-        commands: commands,
-        payloads: payloads,
+    table_entries::put_table(e.table, &mut flags, &mut commands, &mut payloads, output);
+    let moved = plain_moves::move_all(e.ops, b.state.caps, b.state.levels, store);
+    let state = State {
+        caps: b.state.caps,
+        levels: moved,
+        ..e.state
     };
-    let a = e.answer;
     PlainOut {
-        bank: bank,
-        answer: a,
+        bank: PlainBank {
+            state,
+            flags,
+            commands,
+            payloads,
+        },
+        answer: e.answer,
     }
 }

@@ -76,7 +76,7 @@ fn outside_burst(
         // `interrupt.tests`, `interrupt.entry`
         Call::Interrupt(address, byte) => interrupt::interrupt(
             st,
-            flags_of(flags, address as u32),
+            flags_of(flags, u32::from(address)),
             address,
             byte,
         ),
@@ -121,9 +121,5 @@ fn taken_word(r: Register, words: FirstWords) -> u32
 fn flags_of(flags: &[u8], address: u32) -> u8
     ensures { result ≡ get_or flags.now address 0 }
 {
-    let at = address as usize;
-    if at < flags.len() {
-        return flags[at];
-    }
-    0
+    flags.get(address as usize).copied().unwrap_or(0)
 }

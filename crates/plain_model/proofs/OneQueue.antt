@@ -22,16 +22,16 @@ use Rattle.plain_model.specs.FitsArea.{FitsArea}
 use Rattle.plain_model.specs.PlainLaws.{DeadWordsStay}
 
 -- ── Words moved down, in any stretch of any store ─────────────────────────────────────────────────────────────
-abbrev Outside : ℕ → ℕ → ℕ → Type 0
+abbrev pub Outside : ℕ → ℕ → ℕ → Type 0
 Outside to n x = (x < to) ⊎ (to + n ≤ x)
 
-length_shift : (to from n : ℕ) (st : List ℕ) → length (shift to from n st) ≡ length st
+pub length_shift : (to from n : ℕ) (st : List ℕ) → length (shift to from n st) ≡ length st
 unfolding shift
 length_shift to from zero st = refl
 length_shift to from (suc n) st = length_shift (suc to) (suc from) n (set st to (get_or st from 0)) ∙ length-set st to (get_or st from 0)
 
 -- a word outside the stretch that is written stays
-shift_outside : (to from n : ℕ) (st : List ℕ) (x : ℕ) → Outside to n x → get_or (shift to from n st) x 0 ≡ get_or st x 0
+pub shift_outside : (to from n : ℕ) (st : List ℕ) (x : ℕ) → Outside to n x → get_or (shift to from n st) x 0 ≡ get_or st x 0
 unfolding shift
 shift_outside to from zero st x h = refl
 shift_outside to from (suc n) st x h =
@@ -39,7 +39,7 @@ shift_outside to from (suc n) st x h =
     ∙ get_or-set_other st to x (get_or st from 0) 0 (λ e. ⊎_elim (λ a. omega arith) (λ a. omega arith) h)
 
 -- a word inside comes from as far behind `from` as it stands behind `to`
-shift_inside : (to from n : ℕ) (st : List ℕ) (i : ℕ) → to ≤ from → to + n ≤ length st → i < n → get_or (shift to from n st) (to + i) 0 ≡ get_or st (from + i) 0
+pub shift_inside : (to from n : ℕ) (st : List ℕ) (i : ℕ) → to ≤ from → to + n ≤ length st → i < n → get_or (shift to from n st) (to + i) 0 ≡ get_or st (from + i) 0
 unfolding shift
 shift_inside to from zero st i h l p = absurd (omega arith)
 shift_inside to from (suc n) st zero h l p =

@@ -1,30 +1,31 @@
--- A shift, word by word: what is still to be moved, on the store so far, gives the whole.
-use Prim.Native.Nat.{ℕ, suc, ◌+◌, ◌-◌, ◌≤◌, ◌<◌}
+-- Words that were copied to the front of an area, all at once, are those that moved down one by one.
+use Prim.Native.Nat.{ℕ, ◌+◌, ◌-◌, ◌≤◌, ◌<◌}
 use native.Mathlib.Omega.{arith}
-use mathlib.Core.Path.{◌≡◌, ◌∙◌}
+use mathlib.Core.Path.{◌≡◌, refl, ap, sym, ◌∙◌}
+use mathlib.Core.Bool.{Bool, true, false}
 use mathlib.Core.List.{List}
-use lib.ListN.{get_or, set}
+use mathlib.Core.Logic.{inl, inr}
+use lib.Dec.{ltb}
+use lib.ListN.{length, get_or}
+use borrow.Author.Tests.{ltb-true, ltb-false}
+use Rattle.std.specs.List.{CopiedTo, SameBelow, SameFrom}
+use Rattle.std.proofs.lemmas.List.{ext_get_or}
 use Rattle.plain_model.specs.Moves.{shift}
+use Rattle.plain_model.proofs.OneQueue.{length_shift, shift_inside, shift_outside}
 
--- the words from the i-th on are still to be moved
-abbrev pub rest : ℕ → ℕ → ℕ → ℕ → List ℕ → List ℕ
-rest to from n i st = shift (to + i) (from + i) (n - i) st
+module _ (to from n : ℕ) (st new : List ℕ) (h : to ≤ from) (l : from + n ≤ length st) where
+  pub moved : length new ≡ length st → CopiedTo st new from to n → SameBelow st new to → SameFrom st new (to + n) → new ≡ shift to from n st
+  moved z c b f = ext_get_or 0 new (shift to from n st) (z ∙ sym (length_shift to from n st)) (λ i p. below i (ltb i to) refl)
+    where
+      inside : (i : ℕ) → to ≤ i → i < to + n → get_or new i 0 ≡ get_or (shift to from n st) i 0
+      inside i a p =
+          let e : to + (i - to) ≡ i = omega arith in
+          c i 0 a p ∙ sym (shift_inside to from n st (i - to) h (omega arith) (omega arith)) ∙ ap (λ (k : ℕ). get_or (shift to from n st) k 0) e
 
-pub none_moved : (to from n : ℕ) (st : List ℕ) → rest to from n 0 st ≡ shift to from n st
-none_moved to from n st =
-    let x : to + 0 ≡ to = omega arith in
-    let y : from + 0 ≡ from = omega arith in
-    let z : n - 0 ≡ n = omega arith in
-    λ i. shift (x i) (y i) (z i) st
+      behind : (i : ℕ) → to ≤ i → (t : Bool) → ltb i (to + n) ≡ t → get_or new i 0 ≡ get_or (shift to from n st) i 0
+      behind i a true e = inside i a (ltb-true i (to + n) e)
+      behind i a false e = let p = ltb-false i (to + n) e in f i 0 p ∙ sym (shift_outside to from n st i (inr p))
 
-pub one_moved : (to from n i : ℕ) (st : List ℕ) → i < n → rest to from n i st ≡ rest to from n (i + 1) (set st (to + i) (get_or st (from + i) 0))
-unfolding shift
-one_moved to from n i st h =
-    let m : n - i ≡ suc (n - (i + 1)) = omega arith in
-    let x : suc (to + i) ≡ to + (i + 1) = omega arith in
-    let y : suc (from + i) ≡ from + (i + 1) = omega arith in
-    (λ j. shift (to + i) (from + i) (m j) st) ∙ (λ j. shift (x j) (y j) (n - (i + 1)) (set st (to + i) (get_or st (from + i) 0)))
-
-pub all_moved : (to from n i : ℕ) (st : List ℕ) → n ≤ i → rest to from n i st ≡ st
-unfolding shift
-all_moved to from n i st h = let m : n - i ≡ 0 = omega arith in λ j. shift (to + i) (from + i) (m j) st
+      below : (i : ℕ) (t : Bool) → ltb i to ≡ t → get_or new i 0 ≡ get_or (shift to from n st) i 0
+      below i true e = let p = ltb-true i to e in b i 0 p ∙ sym (shift_outside to from n st i (inl p))
+      below i false e = behind i (ltb-false i to e) (ltb i (to + n)) refl

@@ -6,7 +6,7 @@ ghost use Rattle.std.specs.Prelude.{◌≡◌, ◌+◌, ◌≤◌, length};
 ghost use Rattle.model.specs.Decision.{take, push, push2};
 ghost use Rattle.effect.specs.Ops.{op_of, ops_of};
 ghost use Rattle.plain_model.specs.Areas.{plain_areas};
-ghost use Rattle.plain_model.specs.Moves.{on_level, shift, on_plain_store, on_levels, on_plain_stores};
+ghost use Rattle.plain_model.specs.Moves.{on_level, on_plain_store, on_levels, on_plain_stores};
 ghost use Rattle.plain_model.specs.FitsArea.{FitsArea, AllFitAreas};
 
 use bank::Counts;
@@ -23,17 +23,12 @@ pub fn move_all(o: Ops, caps: Counts, levels: Counts, store: &mut [u32]) -> Coun
     if !o.any {
         return levels;
     }
-    let on_cmd = o.cmd;
-    let on_cmdr = o.cmdr;
-    let on_sdo = o.sdo;
-    let on_sdi = o.sdi;
-    let on_ibi = o.ibi;
     let a = plain_words::areas(caps, levels);
-    let cmd = apply(on_cmd, a.cmd, store);
-    let cmdr = apply(on_cmdr, a.cmdr, store);
-    let sdo = apply(on_sdo, a.sdo, store);
-    let sdi = apply(on_sdi, a.sdi, store);
-    let ibi = apply(on_ibi, a.ibi, store);
+    let cmd = apply(o.cmd, a.cmd, store);
+    let cmdr = apply(o.cmdr, a.cmdr, store);
+    let sdo = apply(o.sdo, a.sdo, store);
+    let sdi = apply(o.sdi, a.sdi, store);
+    let ibi = apply(o.ibi, a.ibi, store);
     Counts {
         cmd: Words(cmd),
         cmdr: Words(cmdr),
@@ -86,17 +81,7 @@ fn take(store: &mut [u32], a: PlainArea, k: u32) -> u32
     ensures { (result ≡ on_level (take k) a.level) × (store.new ≡ on_plain_store (take k) a store.old) }
 {
     let left = a.level - k;
-    shift(store, a.base, a.base + k as usize, left as usize);
+    let from = a.base + k as usize;
+    store.copy_within(from..from + left as usize, a.base);
     left
-}
-
-// `n` words moved down, each from its place behind `from` to the same place behind `to`. The first goes first: a word is
-// copied before another is written over it.
-fn shift(store: &mut [u32], to: usize, from: usize, n: usize)
-    requires { (to ≤ from) × (from + n ≤ length store.old) }
-    ensures { store.new ≡ shift to from n store.old }
-{
-    for i in 0..n {
-        store[to + i] = store[from + i];
-    }
 }

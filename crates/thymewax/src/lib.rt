@@ -10,6 +10,8 @@ ghost use Rattle.host_model.specs.Host.{version, set_up_in, call_of, section_in}
 ghost use Rattle.host_parts.specs.Lent.{kept_lent, kept_left, lent_all, left_all, fresh, sizes_given, gave, step_on};
 
 use bank::Sizes;
+use image_model::SIZE;
+use number::Refusal;
 
 // The version of layout and calls: the header and the bindings have the same number.
 #[unsafe(no_mangle)]
@@ -24,7 +26,7 @@ pub extern "C" fn thymewax_version() -> u32
 pub extern "C" fn thymewax_image_words() -> usize
     ensures { result ≡ size }
 {
-    image::SIZE
+    SIZE
 }
 
 // Five capacities, five watermarks and the ID, into image and tables: 0, 23, or 21 for an image of another length.
@@ -48,15 +50,15 @@ pub extern "C" fn thymewax_set_up(
 ) -> u32
     ensures { fresh result (kept_left image flags commands payloads) ≡ set_up_in (kept_lent image flags commands payloads) (sizes_given cmd cmdr sdo sdi ibi) (sizes_given cmdmark cmdrmark sdomark sdimark ibimark) id }
 {
-    if !host_parts::is_sized(image, flags, commands, payloads) {
-        return number::NOT_WELL_FORMED;
-    }
+    let Some(image) = image.as_mut_array::<SIZE>() else {
+        return u32::from(Refusal::NotWellFormed);
+    };
     let caps = Sizes {
-        cmd: cmd,
-        cmdr: cmdr,
-        sdo: sdo,
-        sdi: sdi,
-        ibi: ibi,
+        cmd,
+        cmdr,
+        sdo,
+        sdi,
+        ibi,
     };
     let marks = Sizes {
         cmd: cmdmark,
@@ -84,11 +86,11 @@ pub extern "C" fn thymewax_step(
 ) -> u64
     ensures { gave result (left_all image flags commands payloads store output) ≡ step_on (call_of letter offset first second) (lent_all image flags commands payloads store output) }
 {
-    if !host_parts::is_sized(image, flags, commands, payloads) {
-        return host_parts::refused(number::NOT_WELL_FORMED);
-    }
+    let Some(image) = image.as_mut_array::<SIZE>() else {
+        return host_parts::refused(Refusal::NotWellFormed);
+    };
     if !image::is_encoded(image) {
-        return host_parts::refused(number::NOT_WELL_FORMED);
+        return host_parts::refused(Refusal::NotWellFormed);
     }
     host_calls::step(
         image, flags, commands, payloads, store, output, letter, offset, first, second,

@@ -27,8 +27,10 @@ fn on_parts(
 ) -> Reached
     ensures { reached_with result (left_without flags commands payloads store) ≡ replay_of file.now i limit (controller_of s h (lent_without flags commands payloads store)) }
 {
-use bank::{Heads, State};
-use image_model::SIZE;
+    let records = match trace::section(file, i) {
+        Ok(records) => records,
+        Err(why) => return replayed::reach(s, h, u32::from(why), 0, replayed::NO_ANSWER),
+    };
     let n = record::whole(limit, records);
     let fault = faults::parts_fault(s, h, flags, commands, store.len());
     let mut none = [0u32; 0];

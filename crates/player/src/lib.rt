@@ -3,6 +3,7 @@
 #![tactic(auto)]
 
 ghost use Rattle.std.specs.Prelude.{◌≡◌, ◌*◌, ◌≤◌, length};
+ghost use Rattle.number.specs.Refusals.{told};
 ghost use Rattle.answer.specs.Given.{bank_with, controller};
 ghost use Rattle.answer.specs.Memory.{memory, lent, left, controller_of};
 ghost use Rattle.faults.specs.Faults.{fault_number};
@@ -14,14 +15,6 @@ ghost use Rattle.player.specs.Given.{reached_with};
 use bank::{Bank, Heads, State};
 use replayed::{Reached, Replayed};
 
-// A state put together field by field (see `bank::state_with`): as one piece, two pairs of levels stay packed from record
-// to record.
-fn by_field(s: State) -> State
-    ensures { result ≡ s }
-{
-    bank::state_with(s.caps, s.levels, s.regs, s.control, s.phase)
-}
-
 // The first `n` records, on a state and its lent tables: a layer, no interface.
 pub fn replay_parts(
     st: State,
@@ -31,11 +24,11 @@ pub fn replay_parts(
     payloads: &mut [u32; 16],
     store: &mut [u32],
     output: &mut [u32],
-    fault: u32,
+    fault: Result<(), Refusal>,
     records: &[u8],
     n: usize,
 ) -> Reached
-    requires { (let m = memory flags commands payloads store output in fault ≡ fault_number (bank_with st heads m.tables) (length m.store)) × (12 * n ≤ length records.now) }
+    requires { (let m = memory flags commands payloads store output in told fault ≡ fault_number (bank_with st heads m.tables) (length m.store)) × (12 * n ≤ length records.now) }
     ensures { reached_with result (left flags commands payloads store output) ≡ each_record did wrong n records.now 0 (replay_begun 0 (controller_of st heads (lent flags commands payloads store output))) }
 {
     let mut s = st;
@@ -46,7 +39,8 @@ pub fn replay_parts(
             return replayed::stopped(s, h, i, a);
         };
         let y = serve::step_parts(s, h, flags, commands, payloads, store, output, fault, c);
-        s = by_field(y.state);
+        // As one piece, two pairs of levels stay packed from record to record.
+        s = y.state.by_field();
         h = y.heads;
         a = y.answer;
     }

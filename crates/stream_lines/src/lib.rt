@@ -38,12 +38,12 @@ fn show_parts(
     payloads: &mut [u32; 16],
     store: &mut [u32],
     output: &mut [u32],
-    fault: u32,
+    fault: Result<(), Refusal>,
     records: &[u8],
     n: usize,
     out: &mut [u8],
 ) -> Lines
-    requires { (let m = memory flags commands payloads store output in fault ≡ fault_number (bank_with st heads m.tables) (length m.store)) × (12 * n ≤ length records.now) × (12 * n ≤ length out.old) }
+    requires { (let m = memory flags commands payloads store output in told fault ≡ fault_number (bank_with st heads m.tables) (length m.store)) × (12 * n ≤ length records.now) × (12 * n ≤ length out.old) }
     ensures { (shown_with result (left flags commands payloads store output) out.new ≡ lines n records.now (controller_of st heads (lent flags commands payloads store output))) × (result.count ≤ 12 * n) }
 {
     let mut s = st;

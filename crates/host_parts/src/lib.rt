@@ -46,7 +46,7 @@ fn put(ws: &mut [u32], i: usize, w: u32)
 pub fn tell(t: Report, told: &mut [u32]) -> u32
     ensures { (result ≡ t.number) × (told.new ≡ told_in t told.old) }
 {
-    if matches!(t.number, 0 | 27) {
+    if t.number == 0 || t.number == u32::from(Refusal::WrongRecord) {
         put(told, 0, (t.count % 0x1_0000_0000) as u32);
         put(told, 1, t.answer.value);
         put(told, 2, t.answer.number);

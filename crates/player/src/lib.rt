@@ -13,6 +13,7 @@ ghost use Rattle.replayed.specs.Given.{replayed_with};
 ghost use Rattle.player.specs.Given.{reached_with};
 
 use bank::{Bank, Heads, State};
+use number::Refusal;
 use replayed::{Reached, Replayed};
 
 // The first `n` records, on a state and its lent tables: a layer, no interface.

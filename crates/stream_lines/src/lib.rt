@@ -4,6 +4,7 @@
 #![tactic(auto)]
 
 ghost use Rattle.std.specs.Prelude.{◌≡◌, [], ◌*◌, ◌≤◌, length};
+ghost use Rattle.number.specs.Refusals.{told};
 ghost use Rattle.answer.specs.Given.{bank_with, controller};
 ghost use Rattle.answer.specs.Memory.{memory, lent, left, controller_of};
 ghost use Rattle.faults.specs.Faults.{fault_number};
@@ -11,6 +12,7 @@ ghost use Rattle.stream_model.specs.Stream.{lines};
 ghost use Rattle.stream_lines.specs.Given.{shown_with, shown_bank};
 
 use bank::{Bank, Heads, State};
+use number::Refusal;
 
 // The state and the heads after some records, whether a wrong one was met, and how many bytes of the text are filled.
 #[derive(Clone, Copy)]

@@ -32,7 +32,8 @@ pub fn step(b: PlainBank, store: &mut [u32], output: &mut [u32], call: Call) -> 
     serve(b, store, output, call)
 }
 
-// The bank of a set-up, without its heads: where a plain bank comes from.
+// The bank of a set-up, without its heads: where a plain bank comes from. An array goes from one value to another by way
+// of a variable: the check has no other form for it.
 pub fn without_heads(b: Bank) -> PlainBank
     ensures { result ≡ headless b }
 {
@@ -53,9 +54,7 @@ pub fn without_heads(b: Bank) -> PlainBank
 fn fault(b: PlainBank, len: usize) -> Result<(), Refusal>
     ensures { told result ≡ fault_number (headed b) len }
 {
-    let flags = b.flags;
-    let commands = b.commands;
-    faults::parts_fault(b.state, Five::every(0), &flags, &commands, len)
+    faults::parts_fault(b.state, Five::every(0), &b.flags, &b.commands, len)
 }
 
 // A refusal changes nothing, and its value is 0 (`answer.refusal`).
@@ -75,10 +74,15 @@ fn serve(b: PlainBank, store: &mut [u32], output: &mut [u32], call: Call) -> Pla
 {
     let st = b.state;
     let words = plain_words::look(st.caps, st.levels, store);
-    let flags = b.flags;
-    let commands = b.commands;
-    let payloads = b.payloads;
-    let e = plain_decide::decide(st, words, &flags, &commands, &payloads, output.len(), call);
+    let e = plain_decide::decide(
+        st,
+        words,
+        &b.flags,
+        &b.commands,
+        &b.payloads,
+        output.len(),
+        call,
+    );
     settle(b, store, output, e)
 }
 

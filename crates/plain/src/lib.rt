@@ -4,6 +4,7 @@
 #![tactic(auto)]
 
 ghost use Rattle.std.specs.Prelude.{◌≡◌, true, List, ℕ, length};
+ghost use Rattle.number.specs.Refusals.{number_of, told};
 ghost use Rattle.bank.specs.SetUp.{total};
 ghost use Rattle.model.specs.Engine.{step};
 ghost use Rattle.effect.specs.Ops.{ops_of};
@@ -14,23 +15,25 @@ ghost use Rattle.plain_model.specs.PlainLaws.{headless, refused_plain};
 ghost use Rattle.plain_model.specs.FitsArea.{AllFitAreas};
 ghost use Rattle.plain.specs.Given.{plain_lent, plain_given, settled_step};
 
-use bank::{Answer, Bank, Heads, State};
+use bank::{Answer, Bank, State};
 use effect::Effect;
 use model::Call;
+use number::Refusal;
 use plain_model::{PlainBank, PlainOut};
+use queues::Five;
 
 // Any call.
 pub fn step(b: PlainBank, store: &mut [u32], output: &mut [u32], call: Call) -> PlainOut
     ensures { plain_given result store.new output.new ≡ step plain (plain_lent b store.old output.old) call }
 {
-    let n = fault(b, store.len());
-    if n != 0 {
-        return refuse(b, n);
+    if let Err(why) = fault(b, store.len()) {
+        return refuse(b, why);
     }
     serve(b, store, output, call)
 }
 
-// The bank of a set-up, without its heads: where a plain bank comes from.
+// The bank of a set-up, without its heads: where a plain bank comes from. An array goes from one value to another by way
+// of a variable: the check has no other form for it.
 pub fn without_heads(b: Bank) -> PlainBank
     ensures { result ≡ headless b }
 {
@@ -45,34 +48,22 @@ pub fn without_heads(b: Bank) -> PlainBank
     }
 }
 
-// The number of the two tests before every call (`plain.tests`): 21 for a bank that is not well formed, 22 for a store of
-// another length than its queues need, else 0. The tests are those of the rings, which also ask of heads that they lie
+// The two tests before every call (`plain.tests`): 21 for a bank that is not well formed, 22 for a store of another
+// length than its queues need. The tests are those of the rings, which also ask of heads that they lie
 // inside their areas: 0 does.
-fn fault(b: PlainBank, len: usize) -> u32
-    ensures { result ≡ fault_number (headed b) len }
+fn fault(b: PlainBank, len: usize) -> Result<(), Refusal>
+    ensures { told result ≡ fault_number (headed b) len }
 {
-    let flags = b.flags;
-    let commands = b.commands;
-    let none = Heads {
-        cmd: 0,
-        cmdr: 0,
-        sdo: 0,
-        sdi: 0,
-        ibi: 0,
-    };
-    faults::parts_fault(b.state, none, &flags, &commands, len)
+    faults::parts_fault(b.state, Five::every(0), &b.flags, &b.commands, len)
 }
 
 // A refusal changes nothing, and its value is 0 (`answer.refusal`).
-fn refuse(b: PlainBank, n: u32) -> PlainOut
-    ensures { (s o : List ℕ) → plain_given result s o ≡ refused_plain (plain_lent b s o) n }
+fn refuse(b: PlainBank, why: Refusal) -> PlainOut
+    ensures { (s o : List ℕ) → plain_given result s o ≡ refused_plain (plain_lent b s o) (number_of why) }
 {
     PlainOut {
         bank: b,
-        answer: Answer {
-            value: 0,
-            number: n,
-        },
+        answer: Answer::refused(why),
     }
 }
 
@@ -83,10 +74,15 @@ fn serve(b: PlainBank, store: &mut [u32], output: &mut [u32], call: Call) -> Pla
 {
     let st = b.state;
     let words = plain_words::look(st.caps, st.levels, store);
-    let flags = b.flags;
-    let commands = b.commands;
-    let payloads = b.payloads;
-    let e = plain_decide::decide(st, words, &flags, &commands, &payloads, output.len(), call);
+    let e = plain_decide::decide(
+        st,
+        words,
+        &b.flags,
+        &b.commands,
+        &b.payloads,
+        output.len(),
+        call,
+    );
     settle(b, store, output, e)
 }
 

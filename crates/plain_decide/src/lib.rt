@@ -2,7 +2,7 @@
 // The decisions are those of the ring engine. It writes nothing, and where a word lies it does not know.
 #![tactic(auto)]
 
-ghost use Rattle.std.specs.Prelude.{◌≡◌, true, false, not, ◌&&◌, List, ℕ, length, get_or};
+ghost use Rattle.std.specs.Prelude.{◌≡◌, true, false, not, ◌&&◌, List, ℕ, length};
 ghost use Rattle.bank.specs.Bursts.{bursting};
 ghost use Rattle.bank.specs.Formed.{open_ok};
 ghost use Rattle.model.specs.declared.Call.TheVariants.{Read};
@@ -17,6 +17,7 @@ ghost use Rattle.plain_words.specs.Fronts.{firsts_of};
 use bank::State;
 use effect::Effect;
 use model::Call;
+use number::Refusal;
 use plain_words::FirstWords;
 use registers::Register;
 
@@ -34,7 +35,7 @@ pub fn decide(
     ensures { (o : List ℕ) (f : Fronts) → words ≡ firsts_of f → length o ≡ len → (let t = tables flags.now commands.now payloads.now o in effect_of result t ≡ verdict (λ v. decide v call) (seen st t f)) }
 {
     if calls::is_misfit(call) {
-        return effect::refuse(st, number::OUT_OF_RANGE);
+        return effect::refuse(st, Refusal::OutOfRange);
     }
     if burst_commands::is_bursting(st.control) & calls::is_event(call) {
         return offload::event(st, flags, commands, payloads, len, call);
@@ -65,7 +66,7 @@ fn outside_burst(
             st,
             words.cmd,
             words.second,
-            flags_of(flags, words.cmd / 2 % 0x80),
+            bank::entry_at(flags, (words.cmd / 2 % 0x80) as usize, 0),
         ),
         // `send.tests`, `send.byte`
         Call::Send => payload::send(st, words.sdo),
@@ -76,7 +77,7 @@ fn outside_burst(
         // `interrupt.tests`, `interrupt.entry`
         Call::Interrupt(address, byte) => interrupt::interrupt(
             st,
-            flags_of(flags, u32::from(address)),
+            bank::entry_at(flags, address as usize, 0),
             address,
             byte,
         ),
@@ -115,11 +116,4 @@ fn taken_word(r: Register, words: FirstWords) -> u32
         Register::IbiFifo => words.ibi,
         _ => 0,
     }
-}
-
-// The flags of a device, by its address (`device.flags`).
-fn flags_of(flags: &[u8], address: u32) -> u8
-    ensures { result ≡ get_or flags.now address 0 }
-{
-    flags.get(address as usize).copied().unwrap_or(0)
 }

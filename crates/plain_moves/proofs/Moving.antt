@@ -1,7 +1,6 @@
 -- Five operations one after another are those of the definition.
 use Prim.Native.Nat.{ℕ, ◌+◌, ◌≤◌}
-use mathlib.Core.Path.{◌≡◌, refl, ap, ◌∙◌, subst}
-use mathlib.Core.Bool.{true, false}
+use mathlib.Core.Path.{◌≡◌, ap, ◌∙◌}
 use mathlib.Core.List.{List}
 use lib.ListN.{length}
 use Rattle.ring.specs.Units.{words}
@@ -10,28 +9,11 @@ use Rattle.queues.specs.declared.Queue.{Queue}
 use Rattle.queues.specs.declared.Five.{Five}
 use Rattle.queues.specs.Each.{of}
 use Rattle.model.specs.Decision.{QueueOp}
-use Rattle.effect.specs.Ops.{Ops}
-use Rattle.effect.specs.Ops.{five_of, ops_of}
 use Rattle.plain_model.specs.declared.PlainArea.{PlainArea}
 use Rattle.plain_model.specs.Areas.{plain_areas}
 use Rattle.plain_model.specs.Moves.{on_level, on_plain_store, on_levels, on_plain_stores}
 use Rattle.plain_model.specs.FitsArea.{FitsArea, AllFitAreas}
-use Rattle.plain_words.specs.declared.PlainAreas.{PlainAreas}
-use Rattle.plain_words.specs.Fronts.{areas_of}
 use Rattle.plain_words.proofs.Laws.{inside}
-
--- where nothing happens to any queue
-pub kept : (o : Ops) (k l : Counts) (s : List ℕ) → o.any ≡ false → (l ≡ on_levels (ops_of o) l) × (s ≡ on_plain_stores (ops_of o) (plain_areas k l) s)
-unfolding ops_of on_plain_store
-kept o k l s n = rw n (refl, refl)
-
--- where something does
-pub touched : (o : Ops) → o.any ≡ true → ops_of o ≡ five_of o
-unfolding ops_of
-touched o e = rw e
-
-pub refit : (x y : Five QueueOp) (k l : Counts) (s : List ℕ) → x ≡ y → AllFitAreas x k l s → AllFitAreas y k l s
-refit x y k l s e w = subst (λ (z : Five QueueOp). AllFitAreas z k l s) e w
 
 -- what an operation asks of an area and the length of the store, as code has them
 pub asked : (o : Five QueueOp) (k l : Counts) (s : List ℕ) → AllFitAreas o k l s → (q : Queue) (a : PlainArea) (n : ℕ) → a ≡ of q (plain_areas k l) → n ≡ length s → FitsArea (of q o) a × (a.base + a.cap ≤ n)
@@ -41,7 +23,7 @@ asked o k l s w q a n e z = rw (e, z) (w.each q, inside o k l s w q)
 abbrev Moved : QueueOp → PlainArea → ℕ → List ℕ → List ℕ → Type 0
 Moved o a n s s' = (n ≡ on_level o a.level) × (s' ≡ on_plain_store o a s) × (length s' ≡ length s)
 
-abbrev levels_at : Five QueueOp → PlainAreas → Counts
+abbrev levels_at : Five QueueOp → Five PlainArea → Counts
 levels_at o a =
     record {
       cmd = words (on_level o.cmd a.cmd.level);
@@ -51,13 +33,10 @@ levels_at o a =
       ibi = words (on_level o.ibi a.ibi.level);
     }
 
-abbrev store_at : Five QueueOp → PlainAreas → List ℕ → List ℕ
-store_at o a s = on_plain_stores o (record { cmd = a.cmd; cmdr = a.cmdr; sdo = a.sdo; sdi = a.sdi; ibi = a.ibi }) s
-
-pub all_moved : (o : Five QueueOp) (k l : Counts) (a : PlainAreas) (n : Counts) (s s1 s2 s3 s4 s5 : List ℕ) → a ≡ areas_of (plain_areas k l)
+pub all_moved : (o : Five QueueOp) (k l : Counts) (a : Five PlainArea) (n : Counts) (s s1 s2 s3 s4 s5 : List ℕ) → a ≡ plain_areas k l
     → Moved o.cmd a.cmd n.cmd.0 s s1 → Moved o.cmdr a.cmdr n.cmdr.0 s1 s2 → Moved o.sdo a.sdo n.sdo.0 s2 s3 → Moved o.sdi a.sdi n.sdi.0 s3 s4 → Moved o.ibi a.ibi n.ibi.0 s4 s5
     → (n ≡ on_levels o l) × (s5 ≡ on_plain_stores o (plain_areas k l) s)
 all_moved o k l a n s s1 s2 s3 s4 s5 e cmd cmdr sdo sdi ibi = (
   (λ i. record { cmd = words (cmd.0 i); cmdr = words (cmdr.0 i); sdo = words (sdo.0 i); sdi = words (sdi.0 i); ibi = words (ibi.0 i) }) ∙ ap (levels_at o) e,
-  rw (ibi.1, sdi.1, sdo.1, cmdr.1, cmd.1) (ap (λ (x : PlainAreas). store_at o x s) e),
+  rw (ibi.1, sdi.1, sdo.1, cmdr.1, cmd.1) (ap (λ (x : Five PlainArea). on_plain_stores o x s) e),
 )

@@ -4,7 +4,7 @@
 
 ghost use Rattle.std.specs.Prelude.{◌≡◌, ◌+◌, ◌≤◌, length};
 ghost use Rattle.model.specs.Decision.{take, push, push2};
-ghost use Rattle.effect.specs.Ops.{op_of, ops_of};
+ghost use Rattle.effect.specs.Ops.{op_of, five_of, ops_of};
 ghost use Rattle.plain_model.specs.Areas.{plain_areas};
 ghost use Rattle.plain_model.specs.Moves.{on_level, on_plain_store, on_levels, on_plain_stores};
 ghost use Rattle.plain_model.specs.FitsArea.{FitsArea, AllFitAreas};
@@ -12,24 +12,33 @@ ghost use Rattle.plain_model.specs.FitsArea.{FitsArea, AllFitAreas};
 use bank::Counts;
 use effect::{Op, Ops};
 use plain_model::PlainArea;
+use queues::Five;
 use ring::Words;
 
-// The operations on all five queues: the levels after them. Where `any` is false none is made, whatever they are: a word
-// written to a full queue is dropped so.
+// The operations on all five queues: the levels after them. Where there are none nothing moves: a word written to a full
+// queue is dropped so.
+#[tactic(auto, unfolding(plain_model::specs::Moves::on_plain_store))]
 pub fn move_all(o: Ops, caps: Counts, levels: Counts, store: &mut [u32]) -> Counts
     requires { AllFitAreas (ops_of o) caps levels store.old }
     ensures { (result ≡ on_levels (ops_of o) levels) × (store.new ≡ on_plain_stores (ops_of o) (plain_areas caps levels) store.old) }
 {
-    if !o.any {
-        return levels;
+    match o {
+        Some(each) => move_each(each, caps, levels, store),
+        None => levels,
     }
+}
+
+fn move_each(o: Five<Op>, caps: Counts, levels: Counts, store: &mut [u32]) -> Counts
+    requires { AllFitAreas (five_of o) caps levels store.old }
+    ensures { (result ≡ on_levels (five_of o) levels) × (store.new ≡ on_plain_stores (five_of o) (plain_areas caps levels) store.old) }
+{
     let a = plain_words::areas(caps, levels);
     let cmd = apply(o.cmd, a.cmd, store);
     let cmdr = apply(o.cmdr, a.cmdr, store);
     let sdo = apply(o.sdo, a.sdo, store);
     let sdi = apply(o.sdi, a.sdi, store);
     let ibi = apply(o.ibi, a.ibi, store);
-    Counts {
+    Five {
         cmd: Words(cmd),
         cmdr: Words(cmdr),
         sdo: Words(sdo),

@@ -1,16 +1,11 @@
--- Areas and first words of the plain engine, as code and decisions have them.
+-- First words of the plain engine, as code and decisions have them.
 use Rattle.std.specs.Prelude.{ℕ, List, get_or}
 use Rattle.bank.specs.Fives.{Counts}
-use Rattle.queues.specs.declared.Five.{Five}
 use Rattle.queues.specs.Each.{each}
 use Rattle.effect.specs.Seen.{Front, Fronts}
 use Rattle.plain_model.specs.declared.PlainArea.{PlainArea}
 use Rattle.plain_model.specs.Areas.{plain_areas, plain_words}
-use Rattle.plain_words.specs.declared.PlainAreas.{PlainAreas}
 use Rattle.plain_words.specs.declared.FirstWords.{FirstWords}
-
-abbrev pub areas_of : Five PlainArea → PlainAreas
-areas_of a = record { cmd = a.cmd; cmdr = a.cmdr; sdo = a.sdo; sdi = a.sdi; ibi = a.ibi }
 
 abbrev pub plain_front : PlainArea → List ℕ → Front
 plain_front a st = record { first = get_or (plain_words a st) 0 0; second = get_or (plain_words a st) 1 0 }

@@ -3,45 +3,27 @@
 #![tactic(auto)]
 
 ghost use Rattle.std.specs.Prelude.{◌≡◌, ◌+◌, ◌≤◌, length, get_or};
+ghost use Rattle.queues.specs.Each.{each};
 ghost use Rattle.model.specs.Decision.{keep_all};
 ghost use Rattle.plain_model.specs.Areas.{plain_area, plain_areas, plain_words};
 ghost use Rattle.plain_model.specs.FitsArea.{AllFitAreas};
-ghost use Rattle.plain_words.specs.Fronts.{areas_of, firsts_of, plain_fronts};
+ghost use Rattle.plain_words.specs.Fronts.{firsts_of, plain_fronts};
 
 use bank::Counts;
 use plain_model::PlainArea;
+use queues::Five;
 use ring::Words;
 
-// The five queues in their areas.
-#[derive(Clone, Copy)]
-pub struct PlainAreas {
-    pub cmd: PlainArea,
-    pub cmdr: PlainArea,
-    pub sdo: PlainArea,
-    pub sdi: PlainArea,
-    pub ibi: PlainArea,
-}
-
-// Where the areas begin in the store.
-#[derive(Clone, Copy)]
-struct Bases {
-    cmd: usize,
-    cmdr: usize,
-    sdo: usize,
-    sdi: usize,
-    ibi: usize,
-}
-
-// Each area begins where the one before it ends (`store.order`). The capacities are given one by one: a proof about a
-// sum need not look into a state.
-fn in_a_row(cmd: u32, cmdr: u32, sdo: u32, sdi: u32) -> Bases
-    ensures { result ≡ record { cmd = 0; cmdr = cmd; sdo = cmd + cmdr; sdi = cmd + cmdr + sdo; ibi = cmd + cmdr + sdo + sdi } }
+// Where the areas begin in the store: each where the one before it ends (`store.order`). The capacities are given one
+// by one: a proof about a sum need not look into a state.
+fn in_a_row(cmd: u32, cmdr: u32, sdo: u32, sdi: u32) -> Five<usize>
+    ensures { result ≡ each 0 cmd (cmd + cmdr) (cmd + cmdr + sdo) (cmd + cmdr + sdo + sdi) }
 {
     let cmdr_base = cmd as usize;
     let sdo_base = cmdr_base + cmdr as usize;
     let sdi_base = sdo_base + sdo as usize;
     let ibi_base = sdi_base + sdi as usize;
-    Bases {
+    Five {
         cmd: 0,
         cmdr: cmdr_base,
         sdo: sdo_base,
@@ -54,18 +36,18 @@ fn area(base: usize, cap: Words, level: Words) -> PlainArea
     ensures { result ≡ plain_area base cap level }
 {
     PlainArea {
-        base: base,
+        base,
         cap: cap.0,
         level: level.0,
     }
 }
 
 // The five queues in their areas, by capacities and levels.
-pub fn areas(caps: Counts, levels: Counts) -> PlainAreas
-    ensures { result ≡ areas_of (plain_areas caps levels) }
+pub fn areas(caps: Counts, levels: Counts) -> Five<PlainArea>
+    ensures { result ≡ plain_areas caps levels }
 {
     let at = in_a_row(caps.cmd.0, caps.cmdr.0, caps.sdo.0, caps.sdi.0);
-    PlainAreas {
+    Five {
         cmd: area(at.cmd, caps.cmd, levels.cmd),
         cmdr: area(at.cmdr, caps.cmdr, levels.cmdr),
         sdo: area(at.sdo, caps.sdo, levels.sdo),

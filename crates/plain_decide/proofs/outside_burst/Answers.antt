@@ -1,5 +1,5 @@
 -- `plain_decide::outside_burst`: each call by its own decision.
-use Rattle.std.proofs.Common.{ℕ, get_or, ap, refl, sym, ◌∙◌}
+use Rattle.std.proofs.Common.{ap, refl, sym, ◌∙◌}
 use borrow.Author.Tests.{ltb-false}
 use Rattle.registers.specs.declared.Register.{Register}
 use Rattle.model.specs.View.{View, tables}
@@ -44,7 +44,7 @@ returns-in-Start c =
     let a = c.args in
     λ o f w n.
     let t = tables a.flags.now a.commands.now a.payloads.now o in
-    decided_by (seen a.st t f) _ _ _ c.in-Start.is c.requires.1 c.requires.2 (c.start.ensures t f (ap (λ (x : FirstWords). x.cmd) w) (ap (λ (x : FirstWords). x.second) w) c.flags_of.ensures)
+    decided_by (seen a.st t f) _ _ _ c.in-Start.is c.requires.1 c.requires.2 (c.start.ensures t f (ap (λ (x : FirstWords). x.cmd) w) (ap (λ (x : FirstWords). x.second) w) c.entry_at.ensures)
 
 pub returns-in-Send : goal.returns-in-Send
 returns-in-Send c =
@@ -72,7 +72,7 @@ returns-in-Interrupt c =
     let a = c.args in
     λ o f w n.
     let t = tables a.flags.now a.commands.now a.payloads.now o in
-    decided_by (seen a.st t f) _ _ _ c.in-Interrupt.is c.requires.1 c.requires.2 (c.interrupt.ensures t f (c.flags_of-in-Interrupt.ensures ∙ ap (λ (n : ℕ). get_or a.flags.now n 0) c.from.ensures))
+    decided_by (seen a.st t f) _ _ _ c.in-Interrupt.is c.requires.1 c.requires.2 (c.interrupt.ensures t f c.entry_at-in-Interrupt.ensures)
 
 pub returns-in-Request : goal.returns-in-Request
 returns-in-Request c =

@@ -54,7 +54,7 @@ fn area(base: usize, cap: Words, level: Words) -> PlainArea
     ensures { result ≡ plain_area base cap level }
 {
     PlainArea {
-        base: base,
+        base,
         cap: cap.0,
         level: level.0,
     }

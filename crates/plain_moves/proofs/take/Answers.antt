@@ -15,8 +15,7 @@ returns c =
     let least = c.requires.0.fit in
     let most = c.requires.0.most in
     let room = c.requires.1 in
-    let l : from + (from + left - from) ≤ length a.store.now = omega (arith, n, least, most, room) in
-    (
+    let l : from + (from + left - from) ≤ length a.store.now = omega (arith, n, least, most, room) in (
       refl,
       moved a.a.base from (from + left - from) a.store.now _ (omega arith) l c.copy_within.ensures.len b.0 b.1 b.2 ∙ ap (λ (x : ℕ). shift a.a.base from x a.store.now) n,
     )

@@ -36,10 +36,9 @@ fn append(out: &mut [u8], at: usize, text: &[u8]) -> usize
     requires { at + length text.now ≤ length out.old }
     ensures { (take result out.new ≡ take at out.old ++ text.now) × (result ≡ at + length text.now) }
 {
-    for k in 0..text.len() {
-        out[at + k] = text[k];
-    }
-    at + text.len()
+    let end = at + text.len();
+    out[at..end].copy_from_slice(text);
+    end
 }
 
 // A line of words and a number, and how many bytes of `out` it fills: a layer, no interface.

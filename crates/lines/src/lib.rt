@@ -4,7 +4,7 @@
 ghost use Rattle.std.specs.Prelude.{◌≡◌, false};
 ghost use Rattle.letters.specs.Forms.{form_of};
 ghost use Rattle.lines.specs.Lines.{hex_of, line_names};
-ghost use Rattle.lines.specs.Automaton.{unread, skipped, letter_read, spaced, extended, eat_of, reading_with, call_read};
+ghost use Rattle.lines.specs.Automaton.{unread, skipped, letter_read, spaced, extended, eat_of, reading_with, reading_of, call_read};
 
 use model::Call;
 
@@ -25,149 +25,137 @@ pub struct Reading {
     pub value: u32,
 }
 
-// A line before its first byte.
-pub fn begin() -> Reading
-    ensures { result ≡ unread }
-{
-    Reading {
-        letter: 0,
-        room: 0,
-        next: 0,
-        last: 0,
-        bare: false,
-        first: 0,
-        value: 0,
-    }
-}
-
-// A line with its letter, and the most digits of its two fields.
-fn lettered(letter: u8, next: u8, last: u8) -> Reading
-    ensures { result ≡ reading_with letter 0 next last false 0 0 }
-{
-    Reading {
-        letter: letter,
-        room: 0,
-        next: next,
-        last: last,
-        bare: false,
-        first: 0,
-        value: 0,
-    }
-}
-
-fn skip() -> Reading
-    ensures { result ≡ skipped }
-{
-    lettered(1, 0, 0)
-}
-
-// The first byte of a line.
-#[tactic(auto, unfolding(letters::specs::Forms::forms, letters::specs::Forms::form_with))]
-fn letter(b: u8) -> Reading
-    ensures { result ≡ letter_read (form_of b) }
-{
-    match b {
-        b'W' => lettered(b'W', 4, 8),
-        b'R' => lettered(b'R', 4, 0),
-        b'S' => lettered(b'S', 0, 0),
-        b'T' => lettered(b'T', 0, 0),
-        b'X' => lettered(b'X', 2, 0),
-        b'F' => lettered(b'F', 2, 0),
-        b'I' => lettered(b'I', 2, 2),
-        b'D' => lettered(b'D', 8, 8),
-        b'A' => lettered(b'A', 0, 0),
-        _ => skip(),
-    }
-}
-
-// The next field begins.
-fn space(r: Reading) -> Reading
-    ensures { result ≡ spaced r }
-{
-    if r.bare {
-        return skip();
-    }
-    if r.next == 0 {
-        return skip();
-    }
-    Reading {
-        letter: r.letter,
-        room: r.next,
-        next: r.last,
-        last: 0,
-        bare: true,
-        first: r.value,
-        value: 0,
-    }
-}
-
 // The value of a hex digit, or 16.
 fn hex(b: u8) -> u32
     ensures { result ≡ hex_of b }
 {
     match b {
-        b'0'..=b'9' => (b - b'0') as u32,
-        b'A'..=b'F' => (b - b'A' + 10) as u32,
-        b'a'..=b'f' => (b - b'a' + 10) as u32,
+        b'0'..=b'9' => u32::from(b - b'0'),
+        b'A'..=b'F' => u32::from(b - b'A' + 10),
+        b'a'..=b'f' => u32::from(b - b'a' + 10),
         _ => 16,
     }
 }
 
-// A digit of the field at hand.
-fn digit(r: Reading, d: u32) -> Reading
-    ensures { result ≡ extended r d }
-{
-    if 15 < d {
-        return skip();
+impl Reading {
+    // A line before its first byte.
+    pub fn begin() -> Reading
+        ensures { result ≡ unread }
+    {
+        Reading {
+            letter: 0,
+            room: 0,
+            next: 0,
+            last: 0,
+            bare: false,
+            first: 0,
+            value: 0,
+        }
     }
-    if r.room == 0 {
-        return skip();
+
+    // A line with its letter, and the most digits of its two fields.
+    pub fn lettered(letter: u8, next: u8, last: u8) -> Reading
+        ensures { result ≡ reading_with letter 0 next last false 0 0 }
+    {
+        Reading {
+            letter,
+            next,
+            last,
+            ..Reading::begin()
+        }
     }
-    Reading {
-        letter: r.letter,
-        room: r.room - 1,
-        next: r.next,
-        last: r.last,
-        bare: false,
-        first: r.first,
-        value: r.value % 0x1000_0000 * 16 + d,
+
+    // A line that can name no call.
+    pub fn skip() -> Reading
+        ensures { result ≡ skipped }
+    {
+        Reading::lettered(1, 0, 0)
+    }
+
+    // The first byte of a line.
+    #[tactic(auto, unfolding(letters::specs::Forms::forms, letters::specs::Forms::form_with))]
+    fn letter(b: u8) -> Reading
+        ensures { result ≡ letter_read (form_of b) }
+    {
+        match b {
+            b'W' => Reading::lettered(b'W', 4, 8),
+            b'R' => Reading::lettered(b'R', 4, 0),
+            b'X' | b'F' => Reading::lettered(b, 2, 0),
+            b'I' => Reading::lettered(b'I', 2, 2),
+            b'D' => Reading::lettered(b'D', 8, 8),
+            b'S' | b'T' | b'A' => Reading::lettered(b, 0, 0),
+            _ => Reading::skip(),
+        }
+    }
+
+    // The next field begins.
+    fn space(self) -> Reading
+        ensures { result ≡ spaced self }
+    {
+        if self.bare || self.next == 0 {
+            return Reading::skip();
+        }
+        Reading {
+            letter: self.letter,
+            room: self.next,
+            next: self.last,
+            last: 0,
+            bare: true,
+            first: self.value,
+            value: 0,
+        }
+    }
+
+    // A digit of the field at hand.
+    fn digit(self, d: u32) -> Reading
+        ensures { result ≡ extended self d }
+    {
+        if 15 < d || self.room == 0 {
+            return Reading::skip();
+        }
+        Reading {
+            room: self.room - 1,
+            bare: false,
+            value: self.value % 0x1000_0000 * 16 + d,
+            ..self
+        }
+    }
+
+    // One byte of a line.
+    pub fn eat(self, b: u8) -> Reading
+        ensures { result ≡ eat_of self b }
+    {
+        if self.letter == 0 {
+            return Reading::letter(b);
+        }
+        if b == b' ' {
+            return self.space();
+        }
+        self.digit(hex(b))
+    }
+
+    // What a line that ends here names.
+    pub fn named(self) -> Option<Call>
+        ensures { result ≡ call_read self }
+    {
+        if self.bare || self.next != 0 {
+            return None;
+        }
+        letters::call(self.letter, self.first, self.value)
     }
 }
 
-// One byte of a line.
-pub fn eat(r: Reading, b: u8) -> Reading
-    ensures { result ≡ eat_of r b }
+// A whole line, read.
+fn read(line: &[u8]) -> Reading
+    ensures { result ≡ reading_of line.now }
 {
-    if r.letter == 0 {
-        return letter(b);
-    }
-    if b == b' ' {
-        return space(r);
-    }
-    let d = hex(b);
-    digit(r, d)
-}
-
-// What a line that ends here names.
-pub fn named(r: Reading) -> Option<Call>
-    ensures { result ≡ call_read r }
-{
-    if r.bare {
-        return None;
-    }
-    if r.next != 0 {
-        return None;
-    }
-    letters::call(r.letter, r.first, r.value)
+    line.iter().fold(Reading::begin(), |r, b| r.eat(*b))
 }
 
 // What a whole line names, as the grammar says it.
+#[tactic(auto, using(crate::proofs::Grammar::reads_the_grammar))]
 pub fn parse(line: &[u8]) -> Option<Call>
     ensures { result ≡ line_names line.now }
 {
-    let mut r = begin();
-    for i in 0..line.len() {
-        r = eat(r, line[i]);
-    }
-    named(r)
+    read(line).named()
 }

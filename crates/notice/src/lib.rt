@@ -4,7 +4,7 @@
 
 ghost use Rattle.std.specs.Prelude.{◌≡◌, ℕ, List, ◌+◌, ◌/◌, ◌%◌, ◌^◌, ◌≤◌, ◌++◌, length, take};
 ghost use Rattle.std.specs.Io.KnownBytes.{Appends};
-ghost use Rattle.notice.specs.Notice.{Noticed};
+ghost use Rattle.notice.specs.Notice.{Noticed, sent_of};
 
 use std::io::Write;
 
@@ -31,15 +31,33 @@ pub fn counted(answers: u64, bytes: usize) -> u64
     answers.wrapping_add(bytes as u64 / 12)
 }
 
+// What a program ends on before its end: an input that cannot be read, or an output that cannot be written.
+#[derive(Clone, Copy)]
+pub enum Failed {
+    Input,
+    Output,
+}
+
+// Writes a text of answers, and counts those that were written.
+pub fn send<W: Write>(to: &mut W, text: &[u8], answers: &mut u64) -> Result<(), Failed>
+    ensures { (n : ℕ) × (n ≤ length text.now) × Appends (W.contents to.old) (W.contents to.new) (take n text.now) × (answers.new ≡ (answers.old + n / 12) % 2 ^ 64) × (result ≡ sent_of n (length text.now)) }
+{
+    let n = write_counted(to, text);
+    *answers = counted(*answers, n);
+    if n < text.len() {
+        return Err(Failed::Output);
+    }
+    Ok(())
+}
+
 // Bytes behind those before a place, and the place behind them.
 fn append(out: &mut [u8], at: usize, text: &[u8]) -> usize
     requires { at + length text.now ≤ length out.old }
     ensures { (take result out.new ≡ take at out.old ++ text.now) × (result ≡ at + length text.now) }
 {
-    for k in 0..text.len() {
-        out[at + k] = text[k];
-    }
-    at + text.len()
+    let end = at + text.len();
+    out[at..end].copy_from_slice(text);
+    end
 }
 
 // A line of words and a number, and how many bytes of `out` it fills: a layer, no interface.

@@ -11,11 +11,8 @@ fn digit(n: u32, base: u32, unit: u32) -> u8
     requires { (0 < base) × (base ≤ 16) × (0 < unit) }
     ensures { result ≡ glyph (n / unit % base) }
 {
-    let d = n / unit % base;
-    if d < 10 {
-        return b'0' + d as u8;
-    }
-    b'a' - 10 + d as u8
+    let d = (n / unit % base) as u8;
+    if d < 10 { b'0' + d } else { b'a' - 10 + d }
 }
 
 // The line of an answer (`session.answers`).
@@ -41,12 +38,9 @@ pub fn line(a: Answer) -> [u8; 12]
 }
 
 // The bytes of a line, into the text from a place on: a layer, no interface.
-#[tactic(auto, using(crate::proofs::Output::line_next))]
 pub fn put(out: &mut [u8], at: usize, text: [u8; 12])
     requires { at + 12 ≤ length out.old }
     ensures { take (at + 12) out.new ≡ take at out.old ++ text }
 {
-    for k in 0..12 {
-        out[at + k] = text[k];
-    }
+    out[at..at + 12].copy_from_slice(&text);
 }

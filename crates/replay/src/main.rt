@@ -3,165 +3,100 @@
 // so on standard error (`program.failure`); what could not be read counts as not there.
 #![tactic(auto)]
 
-ghost use Rattle.std.specs.Prelude.{◌≡◌, ◌≤◌, ◌<◌, length};
+ghost use Rattle.std.specs.Prelude.{◌≡◌, ◌<◌, ◌≤◌, length};
 
 use bank::Bank;
+use notice::Failed;
 use std::io::{Read, Write};
 use stream_model::Stage;
 
 // The bank, what is to come, and how many bytes at the front of the buffer were not used; how many answers were
-// written; whether there may be more to read; whether the input could be read, and all output be written.
+// written.
 #[derive(Clone, Copy)]
-struct Progress {
+struct Replay {
     bank: Bank,
     stage: Stage,
     held: usize,
     answers: u64,
-    more: bool,
-    readable: bool,
-    written: bool,
+    ghost few: { held < 518 },
 }
 
-// How many bytes there are behind a read; whether it failed.
-#[derive(Clone, Copy)]
-struct Filled {
-    have: usize,
-    failed: bool,
+impl Replay {
+    // The input in pieces, up to its end, to what fails, or to where the trace is over.
+    fn run<R: Read, W: Write>(
+        &mut self,
+        input: &mut R,
+        output: &mut W,
+        out: &mut [u8],
+    ) -> Result<(), Failed>
+        requires { length out.old ≡ 24588 }
+    {
+        let mut store = [0u32; 20];
+        let mut buf = [0u8; 24576];
+        for _ in 0..u64::MAX {
+            let n = input
+                .read(&mut buf[self.held..])
+                .map_err(|_| Failed::Input)?;
+            if n == 0 {
+                return Ok(());
+            }
+            let have = self.held + n;
+            let f = stream::feed(self.bank, &mut store, self.stage, &buf[..have], out);
+            let rest = have - f.used;
+            buffer::shift(&mut buf, f.used, rest);
+            *self = Replay {
+                bank: f.bank,
+                stage: f.stage,
+                held: rest,
+                answers: self.answers,
+            };
+            notice::send(output, &out[..f.count], &mut self.answers)?;
+            if stream_end::over(f.stage) {
+                return Ok(());
+            }
+        }
+        Ok(())
+    }
+
+    // The end of the input.
+    fn end<W: Write>(&mut self, output: &mut W, out: &mut [u8]) -> Result<(), Failed>
+        requires { 12 ≤ length out.old }
+    {
+        let m = stream_end::end(self.stage, self.held, out);
+        notice::send(output, &out[..m], &mut self.answers)
+    }
 }
 
 // Input or output failed: says so, with how many answers were written before.
-fn input_failed<W: Write>(errors: &mut W, answers: u64) {
-    notice::tell(
-        errors,
-        b"replay: standard input cannot be read; answers written: ",
-        answers,
-    );
-}
-
-fn output_failed<W: Write>(errors: &mut W, answers: u64) {
-    notice::tell(
-        errors,
-        b"replay: standard output cannot be written; answers written: ",
-        answers,
-    );
-}
-
-// More of the input, read in behind the bytes held.
-fn fill<R: Read>(input: &mut R, buf: &mut [u8], held: usize) -> Filled
-    requires { held ≤ length buf.old }
-    ensures { (held ≤ result.have) × (result.have ≤ length buf.new) }
-{
-    let got = input.read(&mut buf[held..]);
-    let failed = got.is_err();
-    let n = got.unwrap_or(0);
-    Filled {
-        have: held + n,
-        failed: failed,
-    }
-}
-
-// The next piece of the input.
-fn turn<R: Read, W: Write>(
-    input: &mut R,
-    output: &mut W,
-    b: Bank,
-    stage: Stage,
-    held: usize,
-    store: &mut [u32],
-    buf: &mut [u8],
-    out: &mut [u8],
-    answers: u64,
-) -> Progress
-    requires { (held < 518) × (length buf.old ≡ 24576) × (length out.old ≡ 24588) }
-    ensures { result.held < 518 }
-{
-    let filled = fill(input, buf, held);
-    let have = filled.have;
-    if have == held {
-        return Progress {
-            bank: b,
-            stage: stage,
-            held: held,
-            answers: answers,
-            more: false,
-            readable: !filled.failed,
-            written: true,
-        };
-    }
-    let f = stream::feed(b, store, stage, &buf[..have], out);
-    let count = f.count;
-    let sent = notice::write_counted(output, &out[..count]);
-    let used = f.used;
-    let rest = have - used;
-    buffer::shift(buf, used, rest);
-    let next = f.bank;
-    let to_come = f.stage;
-    Progress {
-        bank: next,
-        stage: to_come,
-        held: rest,
-        answers: notice::counted(answers, sent),
-        more: (sent == count) & !stream_end::over(to_come),
-        readable: true,
-        written: sent == count,
-    }
-}
-
-// The end of the input: whether all output was written.
-fn end<W: Write>(output: &mut W, stage: Stage, held: usize, out: &mut [u8]) -> bool
-    requires { 12 ≤ length out.old }
-{
-    let m = stream_end::end(stage, held, out);
-    let sent = notice::write_counted(output, &out[..m]);
-    sent == m
+fn tell<W: Write>(errors: &mut W, failed: Failed, answers: u64) {
+    let words = match failed {
+        Failed::Input => &b"replay: standard input cannot be read; answers written: "[..],
+        Failed::Output => &b"replay: standard output cannot be written; answers written: "[..],
+    };
+    notice::tell(errors, words, answers);
 }
 
 fn main(rt: HostRuntime) {
-    let mut input = rt.stdin();
     let mut output = rt.stdout();
     let mut errors = rt.stderr();
-    let mut store = [0u32; 20];
-    let mut buf = [0u8; 24576];
     let mut out = [0u8; 24588];
-    let mut bank = setup::session_bank();
-    let mut stage = Stage::Opening;
-    let mut held: usize = 0;
-    let mut answers: u64 = 0;
-    let mut readable = true;
-    let mut written = true;
-    let mut more = true;
-    let mut turns = u64::MAX;
-    while more {
-        if turns == 0 {
-            return;
-        }
-        turns -= 1;
-        let t = turn(
-            &mut input,
-            &mut output,
-            bank,
-            stage,
-            held,
-            &mut store,
-            &mut buf,
-            &mut out,
-            answers,
-        );
-        bank = t.bank;
-        stage = t.stage;
-        held = t.held;
-        answers = t.answers;
-        more = t.more;
-        readable = t.readable;
-        written = t.written;
+    let mut replay = Replay {
+        bank: setup::session_bank(),
+        stage: Stage::Opening,
+        held: 0,
+        answers: 0,
+    };
+    let read = replay.run(&mut rt.stdin(), &mut output, &mut out);
+    // The line of the end is counted by nobody.
+    let answers = replay.answers;
+    let ended = match read {
+        Err(Failed::Output) => read,
+        _ => replay.end(&mut output, &mut out),
+    };
+    if let Err(Failed::Input) = read {
+        tell(&mut errors, Failed::Input, answers);
     }
-    if written {
-        written = end(&mut output, stage, held, &mut out);
-    }
-    if !readable {
-        input_failed(&mut errors, answers);
-    }
-    if !written {
-        output_failed(&mut errors, answers);
+    if ended.is_err() {
+        tell(&mut errors, Failed::Output, answers);
     }
 }

@@ -45,35 +45,53 @@ struct Board {
     good: bool,
 }
 
-// The board after a call.
-fn run(board: Board, call: Call) -> Board {
-    let mut store = board.store;
-    let mut words = board.words;
-    let out = controller::step(board.bank, &mut store, &mut words, call);
-    let b = out.bank;
-    Board {
-        bank: b,
-        store: store,
-        words: words,
-        good: board.good & (out.answer.number == 0),
+impl Board {
+    // A board that waits for triggers.
+    fn ready() -> Board {
+        let mut board = Board {
+            bank: setup::session_bank(),
+            store: [0; 20],
+            words: [0; 3],
+            good: true,
+        };
+        let writes = [
+            (ENABLE, 0),
+            (DEV_CHAR, DEVICE),
+            (COMMAND0, READ),
+            (COMMAND1, READ),
+            (COMMAND2, READ),
+            (OPS, MODE),
+        ];
+        for (offset, word) in writes {
+            board.call(Call::Write(offset, word));
+        }
+        board
     }
-}
 
-// A board that waits for triggers.
-fn ready() -> Board {
-    let b = setup::session_bank();
-    let mut board = Board {
-        bank: b,
-        store: [0u32; 20],
-        words: [0u32; 3],
-        good: true,
-    };
-    board = run(board, Call::Write(ENABLE, 0));
-    board = run(board, Call::Write(DEV_CHAR, DEVICE));
-    board = run(board, Call::Write(COMMAND0, READ));
-    board = run(board, Call::Write(COMMAND1, READ));
-    board = run(board, Call::Write(COMMAND2, READ));
-    run(board, Call::Write(OPS, MODE))
+    fn call(&mut self, call: Call) {
+        let out = controller::step(self.bank, &mut self.store, &mut self.words, call);
+        self.bank = out.bank;
+        self.good &= out.answer.number == 0;
+    }
+
+    // The sensor answers a read with a value of 16 bits, its high byte first.
+    fn reply(&mut self, value: u32) {
+        self.call(Call::Receive((value / 256 % 256) as u8));
+        self.call(Call::Receive((value % 256) as u8));
+        self.call(Call::Finish(0));
+    }
+
+    // One burst. Every hundredth read of the square wave is not acknowledged, and gives 0.
+    fn burst(&mut self, sample: u32) {
+        self.call(Call::Trigger);
+        self.reply(ramp(sample));
+        self.reply(triangle(sample));
+        if sample % 100 == 99 {
+            self.call(Call::Finish(REFUSED));
+        } else {
+            self.reply(square(sample));
+        }
+    }
 }
 
 // The three waves, by the number of the sample.
@@ -83,32 +101,11 @@ fn ramp(sample: u32) -> u32 {
 
 fn triangle(sample: u32) -> u32 {
     let t = sample % 200;
-    if t < 100 {
-        return t * 600;
-    }
-    (200 - t) * 600
+    if t < 100 { t * 600 } else { (200 - t) * 600 }
 }
 
 fn square(sample: u32) -> u32 {
     sample / 25 % 2 * 50000 + 1000
-}
-
-// The sensor answers a read with a value of 16 bits, its high byte first.
-fn reply(board: Board, value: u32) -> Board {
-    let high = run(board, Call::Receive((value / 256 % 256) as u8));
-    let low = run(high, Call::Receive((value % 256) as u8));
-    run(low, Call::Finish(0))
-}
-
-// One burst. Every hundredth read of the square wave is not acknowledged, and gives 0.
-fn burst(board: Board, sample: u32) -> Board {
-    let mut next = run(board, Call::Trigger);
-    next = reply(next, ramp(sample));
-    next = reply(next, triangle(sample));
-    if sample % 100 == 99 {
-        return run(next, Call::Finish(REFUSED));
-    }
-    reply(next, square(sample))
 }
 
 // A number in decimal, ten digits at most, and a byte after it. The answer is where the text ends.
@@ -117,12 +114,11 @@ fn put(page: &mut [u8], at: usize, n: u32, after: u8) -> usize
     ensures { result ≤ at + 11 }
 {
     let mut digits = [0u8; 20];
-    let k = io::decimal(n as u64, &mut digits);
-    for i in 0..k {
-        page[at + i] = digits[i];
-    }
-    page[at + k] = after;
-    at + k + 1
+    let k = io::decimal(u64::from(n), &mut digits);
+    let end = at + k;
+    page[at..end].copy_from_slice(&digits[..k]);
+    page[end] = after;
+    end + 1
 }
 
 // A line of the table: of each word the two bytes that were read.
@@ -130,10 +126,11 @@ fn line(page: &mut [u8], at: usize, sample: u32, words: [u32; 3]) -> usize
     requires { at + 44 ≤ length page.old }
     ensures { result ≤ at + 44 }
 {
-    let at1 = put(page, at, sample, b',');
-    let at2 = put(page, at1, words[0] / 65536, b',');
-    let at3 = put(page, at2, words[1] / 65536, b',');
-    put(page, at3, words[2] / 65536, b'\n')
+    let [a, b, c] = words;
+    let at = put(page, at, sample, b',');
+    let at = put(page, at, a / 65536, b',');
+    let at = put(page, at, b / 65536, b',');
+    put(page, at, c / 65536, b'\n')
 }
 
 // The front of a page, where the output takes it.
@@ -160,21 +157,20 @@ fn main(rt: HostRuntime) {
     let mut output = rt.stdout();
     let mut page = [0u8; 4096];
     let mut at = 0;
-    let mut board = ready();
+    let mut board = Board::ready();
     let _ = output.write_all(b"sample,channel0,channel1,channel2\n");
     for sample in 0..SAMPLES {
-        board = burst(board, sample);
+        board.burst(sample);
         if !board.good {
             break;
         }
-        let words = board.words;
-        at = line(&mut page, at, sample, words);
+        at = line(&mut page, at, sample, board.words);
         at = turned(&mut output, &page, at);
     }
     write(&mut output, &page, at);
-    if board.good {
-        let _ = output.write_all(b"# all answers 0\n");
-        return;
-    }
-    let _ = output.write_all(b"# an answer was not 0\n");
+    let _ = output.write_all(if board.good {
+        b"# all answers 0\n"
+    } else {
+        b"# an answer was not 0\n"
+    });
 }

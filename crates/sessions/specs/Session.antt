@@ -1,5 +1,5 @@
 -- A session, 01, 'A session': bytes come in, lines are told apart, calls made, answers printed.
-use Rattle.std.specs.Prelude.{ℕ, ◌≡◌, cond, eqb, take, Some, None}
+use Rattle.std.specs.Prelude.{ℕ, ◌≡◌, cond, eqb, take, Option, Some, None}
 use mathlib.Core.List.{List, [], ◌∷◌, ◌++◌, foldl}
 use Rattle.bank.specs.declared.Answer.{Answer}
 use Rattle.model.specs.Engine.{step}
@@ -30,9 +30,14 @@ abbrev pub ran_of : Controller → Parsed → Printed
 ran_of l None = with_text l []
 ran_of l (Some c) = let s = step rings l c in with_text s.next (answer_line s.answer)
 
+-- the line printed, if any
+abbrev pub text_of : Option (List ℕ) → List ℕ
+text_of None = []
+text_of (Some text) = text
+
 -- what `run` gives
 abbrev pub ran_told : Ran → List ℕ → List ℕ → Printed
-ran_told r s o = with_text (controller r.bank s o) (cond r.said r.text [])
+ran_told r s o = with_text (controller r.bank s o) (text_of r.text)
 
 -- a session between two bytes: bank, store and output, the line so far, what was printed
 pub record Session : Type 0 where

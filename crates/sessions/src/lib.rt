@@ -3,56 +3,36 @@
 // takes the text.
 #![tactic(auto)]
 
-ghost use Rattle.std.specs.Prelude.{◌≡◌, List, [], ℕ, ◌+◌, ◌*◌, ◌≤◌, length, take, Some, None};
-ghost use Rattle.answer.specs.Given.{controller};
+ghost use Rattle.std.specs.Prelude.{◌≡◌, [], ◌+◌, ◌*◌, ◌≤◌, length, take};
 ghost use Rattle.answer.specs.Memory.{bank_lent};
 ghost use Rattle.lines.specs.Automaton.{call_read};
 ghost use Rattle.sessions.specs.Session.{ran_of, ran_told, ended_session, fed_session, session, line_end, session_fed};
 
 use bank::Bank;
 use lines::Reading;
-use model::Call;
 
 // The bank after a line, and the line printed, if any.
 #[derive(Clone, Copy)]
 pub struct Ran {
     pub bank: Bank,
-    pub said: bool,
-    pub text: [u8; 12],
+    pub text: Option<[u8; 12]>,
 }
 
-// A call and its line.
-fn serve(b: Bank, store: &mut [u32], output: &mut [u32], c: Call) -> Ran
-    ensures { ran_told result store.new output.new ≡ ran_of (bank_lent b store output) (Some c) }
-{
-    let out = controller::step(b, store, output, c);
-    let text = print::line(out.answer);
-    let next = out.bank;
-    Ran {
-        bank: next,
-        said: true,
-        text: text,
-    }
-}
-
-// A line that names no call: the bank as it was, nothing printed.
-fn silent(b: Bank) -> Ran
-    ensures { (s o : List ℕ) → ran_told result s o ≡ ran_of (controller b s o) None }
-{
-    Ran {
-        bank: b,
-        said: false,
-        text: [0u8; 12],
-    }
-}
-
-// The end of a line: the call that it names is made, and its answer printed.
+// The end of a line: the call that it names is made, and its answer printed. A line that names none leaves the bank as
+// it was.
 pub fn run(b: Bank, store: &mut [u32], output: &mut [u32], line: Reading) -> Ran
     ensures { ran_told result store.new output.new ≡ ran_of (bank_lent b store output) (call_read line) }
 {
-    match lines::named(line) {
-        Some(c) => serve(b, store, output, c),
-        None => silent(b),
+    let Some(call) = line.named() else {
+        return Ran {
+            bank: b,
+            text: None,
+        };
+    };
+    let out = controller::step(b, store, output, call);
+    Ran {
+        bank: out.bank,
+        text: Some(print::line(out.answer)),
     }
 }
 
@@ -75,20 +55,17 @@ pub fn end_line(
     requires { at + 12 ≤ length out.old }
     ensures { (ended_session result store.new output.new out.new ≡ line_end (session (bank_lent b store output) line (take at out.old))) × (result.count ≤ at + 12) }
 {
-    let end = at + 12;
     let r = run(b, store, output, line);
-    let next = r.bank;
-    if !r.said {
-        return Ended {
-            bank: next,
-            count: at,
-        };
-    }
-    let text = r.text;
-    print::put(out, at, text);
+    let count = match r.text {
+        Some(text) => {
+            print::put(out, at, text);
+            at + 12
+        }
+        None => at,
+    };
     Ended {
-        bank: next,
-        count: end,
+        bank: r.bank,
+        count,
     }
 }
 
@@ -113,23 +90,22 @@ pub fn feed(
     requires { 12 * length piece.now ≤ length out.old }
     ensures { (fed_session result store.new output.new out.new ≡ session_fed (session (bank_lent b store output) line []) piece.now) × (result.count ≤ length out.new) }
 {
-    let mut bank = b;
-    let mut reading = line;
-    let mut count: usize = 0;
-    for i in 0..piece.len() {
-        let byte = piece[i];
-        if byte != b'\n' {
-            reading = lines::eat(reading, byte);
+    let mut turn = SessionTurn {
+        bank: b,
+        line,
+        count: 0,
+    };
+    for byte in piece {
+        if *byte != b'\n' {
+            turn.line = turn.line.eat(*byte);
             continue;
         }
-        let e = end_line(bank, store, output, reading, out, count);
-        bank = e.bank;
-        count = e.count;
-        reading = lines::begin();
+        let e = end_line(turn.bank, store, output, turn.line, out, turn.count);
+        turn = SessionTurn {
+            bank: e.bank,
+            line: Reading::begin(),
+            count: e.count,
+        };
     }
-    SessionTurn {
-        bank: bank,
-        line: reading,
-        count: count,
-    }
+    turn
 }

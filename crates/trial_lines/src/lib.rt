@@ -1,28 +1,29 @@
 // Lines of the test programs: those of a session (`session.lines`), and lines that set up another bank, trigger a burst,
-// lend an output and show it; the output that they lend, and the text of an answer. It knows no engine.
+// lend an output and show it; and a console that does on an engine what they ask, and prints its answers. It knows of an
+// engine what `Engine` says.
 #![tactic(auto)]
 
-ghost use Rattle.std.specs.Prelude.{◌≡◌, true, ◌+◌, ◌≤◌, length};
-ghost use Rattle.lines.specs.Automaton.{reading_with};
-ghost use Rattle.trial_lines.specs.TestLines.{no_line, test_letter, test_letter_read, next_field, eat_test, letter_named, five_from, lent_test, word_shown};
+ghost use Rattle.std.specs.Prelude.{◌≡◌, ◌+◌, ◌*◌, ◌≤◌, length, OnOk};
+ghost use Rattle.trial_lines.specs.Growing.{Grows};
+ghost use Rattle.trial_lines.specs.TestLines.{no_line, test_letter_read, next_field, eat_test, letter_named, five_from, asked_of, lent_test, word_shown, console_of};
 
-use bank::{Answer, Sizes};
+use bank::{Answer, Counts, Sizes};
 use lines::Reading;
+use model::Call;
+use std::io::{self, Read, Write};
 
+// ── A line, byte by byte ───────────────────────────────────────────────────────────────────────────────────────
 // Set-up: `B`, then its eleven numbers, with one space before each.
-pub const SET_UP: u8 = b'B';
+const SET_UP: u8 = b'B';
 
 // The trigger of an offload burst.
-pub const TRIGGER: u8 = b'G';
+const TRIGGER: u8 = b'G';
 
 // `O` and how many words of the output are lent from now on.
-pub const LEND: u8 = b'O';
+const LEND: u8 = b'O';
 
 // `P` and the place of a word of the output.
-pub const SHOW: u8 = b'P';
-
-// No letter: that of a line which can be none of these any more, as in `lines`.
-const DEAD: u8 = 1;
+const SHOW: u8 = b'P';
 
 // A line so far.
 #[derive(Clone, Copy)]
@@ -34,30 +35,14 @@ pub struct Line {
     pub values: [u32; 11],
 }
 
-// A line before its first byte.
-pub fn begin() -> Line
-    ensures { result ≡ no_line }
-{
-    Line {
-        reading: lines::begin(),
-        at: 0,
-        values: [0u32; 11],
-    }
-}
-
-// A line with its letter, and the most digits of its field.
-fn lettered(letter: u8, digits: u8) -> Reading
-    ensures { result ≡ test_letter letter digits }
-{
-    Reading {
-        letter: letter,
-        room: 0,
-        next: digits,
-        last: 0,
-        bare: false,
-        first: 0,
-        value: 0,
-    }
+// What a line asks.
+#[derive(Clone, Copy)]
+pub enum Asked {
+    // Another bank: its capacities, its watermarks and its ID.
+    SetUp(Sizes, Sizes, u32),
+    Make(Call),
+    Lend(u32),
+    Show(u32),
 }
 
 // The first byte of a line.
@@ -65,102 +50,99 @@ fn letter(b: u8) -> Reading
     ensures { result ≡ test_letter_read b }
 {
     match b {
-        SET_UP => lettered(SET_UP, 0),
-        TRIGGER => lettered(TRIGGER, 0),
-        LEND => lettered(LEND, 2),
-        SHOW => lettered(SHOW, 1),
-        _ => lines::eat(lines::begin(), b),
+        SET_UP | TRIGGER => Reading::lettered(b, 0, 0),
+        LEND => Reading::lettered(LEND, 2, 0),
+        SHOW => Reading::lettered(SHOW, 1, 0),
+        _ => Reading::begin().eat(b),
     }
 }
 
-// A field of a set-up before its first digit.
-fn field() -> Reading
-    ensures { result ≡ reading_with 0x42 8 0 0 true 0 0 }
-{
-    Reading {
-        letter: SET_UP,
-        room: 8,
-        next: 0,
-        last: 0,
-        bare: true,
-        first: 0,
-        value: 0,
+impl Line {
+    // A line before its first byte.
+    pub fn begin() -> Line
+        ensures { result ≡ no_line }
+    {
+        Line {
+            reading: Reading::begin(),
+            at: 0,
+            values: [0; 11],
+        }
     }
-}
 
-// The next field of a set-up begins.
-fn space(line: Line) -> Line
-    ensures { result ≡ next_field line }
-{
-    let r = line.reading;
-    let at = line.at;
-    let mut next = line;
-    if r.bare {
-        next.reading = lettered(DEAD, 0);
-        return next;
+    // The next field of a set-up begins.
+    fn space(self) -> Line
+        ensures { result ≡ next_field self }
+    {
+        if self.reading.bare || 11 <= self.at {
+            return Line {
+                reading: Reading::skip(),
+                ..self
+            };
+        }
+        let mut values = self.values;
+        values[self.at] = self.reading.value;
+        Line {
+            reading: Reading {
+                room: 8,
+                bare: true,
+                ..Reading::lettered(SET_UP, 0, 0)
+            },
+            at: self.at + 1,
+            values,
+        }
     }
-    if 11 <= at {
-        next.reading = lettered(DEAD, 0);
-        return next;
-    }
-    next.values[at] = r.value;
-    next.at = at + 1;
-    next.reading = field();
-    next
-}
 
-// One byte of a line.
-pub fn eat(line: Line, b: u8) -> Line
-    ensures { result ≡ eat_test line b }
-{
-    let r = line.reading;
-    let mut next = line;
-    if r.letter == 0 {
-        next.reading = letter(b);
-        return next;
+    // One byte of a line of a test.
+    pub fn eat(self, b: u8) -> Line
+        ensures { result ≡ eat_test self b }
+    {
+        let r = self.reading;
+        if r.letter == SET_UP && b == b' ' {
+            return self.space();
+        }
+        Line {
+            reading: if r.letter == 0 { letter(b) } else { r.eat(b) },
+            ..self
+        }
     }
-    if (r.letter == SET_UP) & (b == b' ') {
-        return space(line);
-    }
-    next.reading = lines::eat(r, b);
-    next
-}
 
-// The letter of a line that ends here, where all its fields are there; else 0.
-pub fn named(line: Line) -> u8
-    ensures { result ≡ letter_named line }
-{
-    let r = line.reading;
-    if r.bare | (r.next != 0) | ((r.letter == SET_UP) & (line.at != 11)) {
-        return 0;
+    // The letter of a line that ends here, where all its fields are there.
+    pub fn named(self) -> Option<u8>
+        ensures { result ≡ letter_named self }
+    {
+        let r = self.reading;
+        if r.bare || r.next != 0 || (r.letter == SET_UP && self.at != 11) {
+            return None;
+        }
+        Some(r.letter)
     }
-    r.letter
-}
 
-// The capacities of a set-up, and its watermarks. Its ID is the field that was read last.
-pub fn caps(line: Line) -> Sizes
-    ensures { result ≡ five_from 1 line.values }
-{
-    let v = line.values;
-    Sizes {
-        cmd: v[1],
-        cmdr: v[2],
-        sdo: v[3],
-        sdi: v[4],
-        ibi: v[5],
+    // Five numbers of a set-up, from a place on.
+    fn five(self, from: usize) -> Sizes
+        requires { from ≤ 6 }
+        ensures { result ≡ five_from from self.values }
+    {
+        Sizes {
+            cmd: self.values[from],
+            cmdr: self.values[from + 1],
+            sdo: self.values[from + 2],
+            sdi: self.values[from + 3],
+            ibi: self.values[from + 4],
+        }
     }
-}
 
-pub fn marks(line: Line) -> Sizes
-    ensures { result ≡ five_from 6 line.values }
-{
-    let v = line.values;
-    Sizes {
-        cmd: v[6],
-        cmdr: v[7],
-        sdo: v[8],
-        sdi: v[9],
-        ibi: v[10],
+    // What a line that ends here asks. The ID of a set-up is the field that was read last.
+    pub fn asked(self) -> Option<Asked>
+        ensures { result ≡ asked_of self }
+    {
+        let r = self.reading;
+        match self.named()? {
+            SET_UP => Some(Asked::SetUp(self.five(1), self.five(6), r.value)),
+            TRIGGER => Some(Asked::Make(Call::Trigger)),
+            LEND => Some(Asked::Lend(r.value)),
+            SHOW => Some(Asked::Show(r.value)),
+            _ => r.named().map(Asked::Make),
+        }
     }
 }
 
@@ -172,55 +154,167 @@ pub struct Output {
     pub lent: usize,
 }
 
-pub fn lending(words: [u32; 16], n: usize) -> Output
-    ensures { result ≡ record { words = words; lent = n } }
-{
-    Output {
-        words: words,
-        lent: n,
+impl Output {
+    // All words are set to 0xffffffff, and the first `n` are lent from now on; nothing where there are fewer.
+    pub fn lend(self, n: u32) -> Output
+        ensures { result ≡ lent_test self n }
+    {
+        if 16 < n {
+            return self;
+        }
+        Output {
+            words: [0xffff_ffff; 16],
+            lent: n as usize,
+        }
     }
-}
 
-// All words are set to 0xffffffff, and the first `n` are lent from now on; nothing where there are fewer.
-pub fn lend(o: Output, n: u32) -> Output
-    ensures { result ≡ lent_test o n }
-{
-    if n <= 16 {
-        return lending([0xffff_ffff; 16], n as usize);
-    }
-    o
-}
-
-// A word of the output, as an answer.
-pub fn show(o: Output, place: u32) -> Answer
-    ensures { result ≡ word_shown o place }
-{
-    let words = o.words;
-    Answer {
-        value: words[(place % 16) as usize],
-        number: 0,
+    // A word of the output, as an answer.
+    pub fn show(self, place: u32) -> Answer
+        ensures { result ≡ word_shown self place }
+    {
+        Answer {
+            value: self.words[(place % 16) as usize],
+            number: 0,
+        }
     }
 }
 
 // A number of words, where there are so many. The test is for the proof.
-pub fn within(n: usize, most: usize) -> usize
+fn within(n: usize, most: usize) -> usize
     ensures { result ≤ most }
 {
-    if n <= most {
-        return n;
-    }
-    0
+    if n <= most { n } else { 0 }
 }
 
 // The line of an answer, if any, from a place on; gives where the text ends.
-pub fn put(said: bool, a: Answer, out: &mut [u8], at: usize) -> usize
+pub fn put(answer: Option<Answer>, out: &mut [u8], at: usize) -> usize
     requires { at + 12 ≤ length out.old }
     ensures { result ≤ at + 12 }
 {
-    if !said {
+    let Some(a) = answer else {
         return at;
-    }
-    let text = print::line(a);
-    print::put(out, at, text);
+    };
+    print::put(out, at, print::line(a));
     at + 12
+}
+
+// ── A console ──────────────────────────────────────────────────────────────────────────────────────────────────
+// A bank, and what makes calls on it.
+pub trait Engine {
+    // The capacities of its queues.
+    fn caps(&self) -> Counts;
+
+    // Another bank.
+    fn set_up(&mut self, caps: Sizes, marks: Sizes, id: u32) -> Answer;
+
+    // A call, on the words that are lent.
+    fn step(&mut self, store: &mut [u32], output: &mut [u32], call: Call) -> Answer;
+}
+
+// An engine, the output that is lent to every call, and the line so far.
+#[derive(Clone, Copy)]
+pub struct Console<E> {
+    pub engine: E,
+    pub output: Output,
+    pub line: Line,
+}
+
+impl<E: Engine> Console<E> {
+    // An engine, an output of ones of which no word is lent, and no line yet.
+    pub fn begin(engine: E) -> Console<E>
+        ensures { result ≡ console_of engine }
+    {
+        Console {
+            engine,
+            output: Output {
+                words: [0xffff_ffff; 16],
+                lent: 0,
+            },
+            line: Line::begin(),
+        }
+    }
+
+    // A call, on as many words of the store as the bank's queues have, and on the words of the output that are lent.
+    fn call(&mut self, store: &mut [u32], call: Call) -> Answer {
+        let n = within(bank::total_of(self.engine.caps()), store.len());
+        let m = within(self.output.lent, 16);
+        let words = &mut self.output.words[..];
+        self.engine.step(&mut store[..n], &mut words[..m], call)
+    }
+
+    // A line is closed, by a newline or by the end of the input: the answer that is printed, if any. A set-up leaves
+    // store and output as they are.
+    fn end_line(&mut self, store: &mut [u32]) -> Option<Answer> {
+        let asked = self.line.asked();
+        self.line = Line::begin();
+        match asked? {
+            Asked::SetUp(caps, marks, id) => Some(self.engine.set_up(caps, marks, id)),
+            Asked::Make(call) => Some(self.call(store, call)),
+            Asked::Lend(n) => {
+                self.output = self.output.lend(n);
+                None
+            }
+            Asked::Show(place) => Some(self.output.show(place)),
+        }
+    }
+
+    // A piece of the input, of which `eat` reads the bytes: how many bytes of the text are filled. A layer, no
+    // interface. The text has room for a line a byte.
+    pub fn feed<F: Fn(Line, u8) -> Line>(
+        &mut self,
+        store: &mut [u32],
+        eat: &F,
+        piece: &[u8],
+        out: &mut [u8],
+    ) -> usize
+        requires room { 12 * length piece.now ≤ length out.old }
+        requires eats { F.IsAlwaysCallable eat.now }
+        ensures { result ≤ length out.new }
+    {
+        let mut count = 0;
+        for byte in piece {
+            if *byte != b'\n' {
+                self.line = eat(self.line, *byte);
+                continue;
+            }
+            let answer = self.end_line(store);
+            count = put(answer, out, count);
+        }
+        count
+    }
+
+    // The end of the input ends the last line: how many bytes of the text are filled. A layer, no interface.
+    pub fn close(&mut self, store: &mut [u32], out: &mut [u8]) -> usize
+        requires { 12 ≤ length out.old }
+        ensures { result ≤ 12 }
+    {
+        let answer = self.end_line(store);
+        put(answer, out, 0)
+    }
+
+    // A whole input, in pieces, to its end or up to text that could not be written. An input that cannot be read ends.
+    pub fn run<R: Read, W: Write, F: Fn(Line, u8) -> Line>(
+        &mut self,
+        input: &mut R,
+        output: &mut W,
+        eat: F,
+    ) -> io::Result<()>
+        requires { F.IsAlwaysCallable eat }
+        ensures { OnOk result (Grows (W.contents output.old) (W.contents output.new)) }
+    {
+        // Room for five queues of the largest capacity.
+        let mut store = [0u32; 5120];
+        let mut piece = [0u8; 4096];
+        let mut out = [0u8; 65536];
+        for _ in 0..u64::MAX {
+            let n = input.read(&mut piece).unwrap_or(0);
+            if n == 0 {
+                let m = self.close(&mut store, &mut out);
+                return output.write_all(&out[..m]);
+            }
+            let m = self.feed(&mut store, &eat, &piece[..n], &mut out);
+            output.write_all(&out[..m])?;
+        }
+        Ok(())
+    }
 }

@@ -5,7 +5,7 @@
 
 ghost use Rattle.std.specs.Prelude.{◌<◌};
 
-use bank::Bank;
+use bank::{Answer, Bank};
 use model::Call;
 use std::io::Write;
 
@@ -31,86 +31,89 @@ struct Board {
     store: [u32; 20],
 }
 
-// The session's bank (`session.bank`), and its store.
-fn fresh() -> Board {
-    let b = setup::session_bank();
-    Board {
-        bank: b,
-        store: [0u32; 20],
+impl Board {
+    // The session's bank (`session.bank`), and its store.
+    fn fresh() -> Board {
+        Board {
+            bank: setup::session_bank(),
+            store: [0; 20],
+        }
     }
-}
 
-// The board after a call whose answer is not printed.
-fn run(board: Board, call: Call) -> Board {
-    let mut store = board.store;
-    let mut none = [0u32; 0];
-    let out = controller::step(board.bank, &mut store, &mut none, call);
-    let b = out.bank;
-    Board {
-        bank: b,
-        store: store,
+    // A fresh board, released, after so many calls.
+    fn released(calls: &[Call]) -> Board {
+        let mut board = Board::fresh();
+        board.call(Call::Write(ENABLE, 0));
+        board.run(calls);
+        board
     }
-}
 
-// The board after a call whose answer is printed, where the output takes it.
-fn say<W: Write>(output: &mut W, board: Board, call: Call) -> Board {
-    let mut store = board.store;
-    let mut none = [0u32; 0];
-    let out = controller::step(board.bank, &mut store, &mut none, call);
-    let text = print::line(out.answer);
-    let _ = output.write_all(&text);
-    let b = out.bank;
-    Board {
-        bank: b,
-        store: store,
+    fn call(&mut self, call: Call) -> Answer {
+        let mut none = [0u32; 0];
+        let out = controller::step(self.bank, &mut self.store, &mut none, call);
+        self.bank = out.bank;
+        out.answer
+    }
+
+    // Calls whose answers are not printed.
+    fn run(&mut self, calls: &[Call]) {
+        for call in calls {
+            self.call(*call);
+        }
+    }
+
+    // Calls whose answers are printed, where the output takes them.
+    fn say<W: Write>(&mut self, output: &mut W, calls: &[Call]) {
+        for call in calls {
+            let text = print::line(self.call(*call));
+            let _ = output.write_all(&text);
+        }
     }
 }
 
 // The worked session of 01, 'A session'.
 fn session<W: Write>(output: &mut W) {
-    let mut board = fresh();
-    board = say(output, board, Call::Write(ENABLE, 0));
-    board = say(output, board, Call::Write(DEV_CHAR, DEVICE));
-    board = say(output, board, Call::Write(SDO, 0xa5c3_0000));
-    board = say(output, board, Call::Write(CMD, 0x210));
-    board = say(output, board, Call::Start);
-    board = say(output, board, Call::Send);
-    board = say(output, board, Call::Send);
-    board = say(output, board, Call::Finish(0));
-    board = say(output, board, Call::Read(CMDR));
-    say(output, board, Call::Read(CMDR));
+    Board::fresh().say(
+        output,
+        &[
+            Call::Write(ENABLE, 0),
+            Call::Write(DEV_CHAR, DEVICE),
+            Call::Write(SDO, 0xa5c3_0000),
+            Call::Write(CMD, 0x210),
+            Call::Start,
+            Call::Send,
+            Call::Send,
+            Call::Finish(0),
+            Call::Read(CMDR),
+            Call::Read(CMDR),
+        ],
+    );
 }
 
 // A fresh board, released, on which a command for device 8 has started.
 fn started(command: u32) -> Board {
-    let mut board = fresh();
-    board = run(board, Call::Write(ENABLE, 0));
-    board = run(board, Call::Write(DEV_CHAR, DEVICE));
-    board = run(board, Call::Write(CMD, command));
-    run(board, Call::Start)
+    Board::released(&[
+        Call::Write(DEV_CHAR, DEVICE),
+        Call::Write(CMD, command),
+        Call::Start,
+    ])
 }
 
 // 004, 'SDI and SDO': the first row of the SDO table, a write of four bytes.
 fn sent<W: Write>(output: &mut W) {
     let mut board = started(0x410);
-    board = run(board, Call::Write(SDO, 0x7856_3412));
-    board = say(output, board, Call::Send);
-    board = say(output, board, Call::Send);
-    board = say(output, board, Call::Send);
-    say(output, board, Call::Send);
+    board.call(Call::Write(SDO, 0x7856_3412));
+    board.say(output, &[Call::Send; 4]);
 }
 
 // 004, 'SDI and SDO': the SDI table, a read of five bytes.
 fn received<W: Write>(output: &mut W) {
     let mut board = started(0x511);
-    board = run(board, Call::Receive(0));
-    board = run(board, Call::Receive(1));
-    board = run(board, Call::Receive(2));
-    board = run(board, Call::Receive(3));
-    board = run(board, Call::Receive(4));
-    board = run(board, Call::Finish(0));
-    board = say(output, board, Call::Read(SDI));
-    say(output, board, Call::Read(SDI));
+    for byte in 0..5 {
+        board.call(Call::Receive(byte));
+    }
+    board.call(Call::Finish(0));
+    board.say(output, &[Call::Read(SDI); 2]);
 }
 
 // The SDO word of an address and a parity bit.
@@ -122,21 +125,21 @@ fn word(address: u32, parity: u32) -> u32
 
 // One device takes an address (`take.address`): 004, 'Dynamic Address Assignment'.
 fn assigned<W: Write>(output: &mut W, word: u32) {
-    let mut board = fresh();
-    board = run(board, Call::Write(ENABLE, 0));
-    board = run(board, Call::Write(CMD, 0x0040_0000));
-    board = run(board, Call::Write(CMD, 0x07));
-    board = run(board, Call::Start);
-    board = run(board, Call::Request(0, 0));
-    board = run(board, Call::Write(SDO, word));
-    say(output, board, Call::Take);
+    let mut board = Board::released(&[
+        Call::Write(CMD, 0x0040_0000),
+        Call::Write(CMD, 0x07),
+        Call::Start,
+        Call::Request(0, 0),
+        Call::Write(SDO, word),
+    ]);
+    board.say(output, &[Call::Take]);
 }
 
 // An address with the parity bit that makes the number of ones odd, then with the other.
 fn both_parities<W: Write>(output: &mut W, address: u32)
     requires { address < 128 }
 {
-    let parity = 1 - u32::count_ones(address) % 2;
+    let parity = 1 - address.count_ones() % 2;
     assigned(output, word(address, parity));
     assigned(output, word(address, 1 - parity));
 }

@@ -22,7 +22,7 @@ PAGE = 'docs/ANSWERS.md'
 DEFINED = 'crates/number/specs/Names.antt'
 # Where names stand, and how.
 PLACES = {
-    'crates/number/src/lib.rt': r'^pub const (\w+): u32 = (\d+);$',
+    'crates/number/src/lib.rt': r'^    (\w+) = (\d+),$',
     'include/thymewax.h': r'^    THYMEWAX_([A-Z_]+) = (\d+)[, ]',
     'bindings/rust/src/number.rs': r'pub const (\w+): Number = Number\((\d+)\);',
     'bindings/python/thymewax/numbers.py': r'^    ([A-Z_]+) = (\d+)$',

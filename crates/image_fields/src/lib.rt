@@ -6,13 +6,14 @@ ghost use Rattle.image_model.specs.Image.{size, counts_in, heads_in, byte_in, bi
 
 use bank::{Control, Counts, Heads, Kind, Latest, Phase, Regs, State, Transfer};
 use image_model::Image;
+use queues::Five;
 use ring::{Bytes, Words};
 
 fn counts_in(image: &Image, at: usize) -> Counts
     requires { at + 17 ≤ size }
     ensures { result ≡ counts_in image.now at }
 {
-    Counts {
+    Five {
         cmd: Words(image[at]),
         cmdr: Words(image[at + 4]),
         sdo: Words(image[at + 8]),
@@ -24,7 +25,7 @@ fn counts_in(image: &Image, at: usize) -> Counts
 pub fn heads_in(image: &Image) -> Heads
     ensures { result ≡ heads_in image.now }
 {
-    Heads {
+    Five {
         cmd: image[2],
         cmdr: image[6],
         sdo: image[10],

@@ -9,9 +9,9 @@ ghost use Rattle.image_model.specs.Image.{size};
 ghost use Rattle.host_model.specs.Host.{version, set_up_in, call_of, section_in};
 ghost use Rattle.host_parts.specs.Lent.{kept_lent, kept_left, lent_all, left_all, fresh, sizes_given, gave, step_on};
 
-use bank::Sizes;
 use image_model::SIZE;
 use number::Refusal;
+use queues::Five;
 
 // The version of layout and calls: the header and the bindings have the same number.
 #[unsafe(no_mangle)]
@@ -53,14 +53,14 @@ pub extern "C" fn thymewax_set_up(
     let Some(image) = image.as_mut_array::<SIZE>() else {
         return u32::from(Refusal::NotWellFormed);
     };
-    let caps = Sizes {
+    let caps = Five {
         cmd,
         cmdr,
         sdo,
         sdi,
         ibi,
     };
-    let marks = Sizes {
+    let marks = Five {
         cmd: cmdmark,
         cmdr: cmdrmark,
         sdo: sdomark,

@@ -4,7 +4,8 @@
 ghost use Rattle.std.specs.Prelude.{◌≡◌, ◌-◌};
 ghost use Rattle.timing.specs.Timing.{fresh_of, kept_in};
 
-use bank::{Answer, Bank, Sizes};
+use bank::{Answer, Bank};
+use queues::Five;
 
 fn less_one(cap: u32) -> u32
     ensures { result ≡ cap - 1 }
@@ -17,7 +18,7 @@ fn less_one(cap: u32) -> u32
 pub fn fresh(cap: u32) -> Bank
     ensures { result ≡ fresh_of cap }
 {
-    let caps = Sizes {
+    let caps = Five {
         cmd: cap,
         cmdr: cap,
         sdo: cap,
@@ -25,7 +26,7 @@ pub fn fresh(cap: u32) -> Bank
         ibi: cap,
     };
     let most = less_one(cap);
-    let marks = Sizes {
+    let marks = Five {
         cmd: 1,
         cmdr: most,
         sdo: 1,

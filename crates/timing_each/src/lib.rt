@@ -13,6 +13,7 @@ ghost use Rattle.timing.specs.Timing.{timed, timed_of};
 use answer::Out;
 use bank::{Answer, Bank};
 use model::Call;
+use number::Refusal;
 use playback_model::Report;
 
 // A call in place on a bank in a local.
@@ -42,7 +43,7 @@ fn replay_records(b: Bank, store: &mut [u32], records: &[u8], n: usize) -> Repor
         let named = record::at(records, i);
         let Some(call) = named else {
             return Report {
-                number: number::WRONG_RECORD,
+                number: u32::from(Refusal::WrongRecord),
                 count: i,
                 answer: a,
             };

@@ -10,6 +10,7 @@ ghost use Rattle.trial_lines.specs.TestLines.{no_line, test_letter_read, next_fi
 use bank::{Answer, Counts, Sizes};
 use lines::Reading;
 use model::Call;
+use queues::Five;
 use std::io::{self, Read, Write};
 
 // ── A line, byte by byte ───────────────────────────────────────────────────────────────────────────────────────
@@ -122,7 +123,7 @@ impl Line {
         requires { from ≤ 6 }
         ensures { result ≡ five_from from self.values }
     {
-        Sizes {
+        Five {
             cmd: self.values[from],
             cmdr: self.values[from + 1],
             sdo: self.values[from + 2],

@@ -42,12 +42,17 @@ def page_names() -> dict[int, str]:
     return {int(number): name for number, name in re.findall(r'^\| (\d+) \|.*\| `(\w+)` \|$', read(PAGE), re.M)}
 
 
+def constant(name: str) -> str:
+    """The name of a constant; that of a variant of the core's enum is told by its capitals."""
+    return name if name.isupper() else re.sub(r'(?<!^)(?=[A-Z])', '_', name).upper()
+
+
 def names() -> list[str]:
     """The names that differ from the page's. 0 is done, and the core has no name for it."""
     page = page_names()
     found = {DEFINED: {number: name.upper() for name, number in defined_names().items()}}
     for place, pattern in PLACES.items():
-        found[place] = {int(number): name for name, number in re.findall(pattern, read(place), re.M)}
+        found[place] = {int(number): constant(name) for name, number in re.findall(pattern, read(place), re.M)}
     return [f'{place}: {number} is {here.get(number)}, {PAGE} has {name}'
             for place, here in found.items() for number, name in page.items()
             if here.get(number) != name and not (number == 0 and place.startswith('crates/'))] + [

@@ -35,7 +35,7 @@ pub struct Regs {
 }
 
 // The words last read from the queues that the driver reads, since the release; 0 where none was (`take.empty`).
-#[derive(Clone, Copy)]
+#[derive(Clone, Copy, PartialEq, Eq)]
 pub struct Latest {
     pub cmdr: u32,
     pub sdi: u32,
@@ -45,7 +45,7 @@ pub struct Latest {
 // What a reset sets besides the queues and the transfer (`enable.reset`): the ENABLE bit, the sync of receipts and that
 // of interrupts, the pending bits 5, 6 and 7, where an offload burst stands (0 where none is open, else 1 more than
 // the place of the command whose transfer is open), and the words last read.
-#[derive(Clone, Copy)]
+#[derive(Clone, Copy, PartialEq, Eq)]
 pub struct Control {
     pub held: bool,
     pub sync: u8,

@@ -15,7 +15,7 @@ pub enum Queue {
 }
 
 // One for each queue, in the order of `store.order`.
-#[derive(Clone, Copy)]
+#[derive(Clone, Copy, PartialEq, Eq)]
 pub struct Five<T> {
     pub cmd: T,
     pub cmdr: T,

@@ -11,7 +11,7 @@ ghost use Rattle.ring.specs.Ring.{Valid, place_of, pushed_of, taken_of, cleared_
 pub struct Bytes(pub u32);
 
 // A number of words in a queue (`units.apart`).
-#[derive(Clone, Copy)]
+#[derive(Clone, Copy, PartialEq, Eq)]
 pub struct Words(pub u32);
 
 // The words that hold `b` bytes.

@@ -109,7 +109,8 @@ def source(path: str, text: str) -> Source:
     """A source of a crate, by its path under crates/."""
     crate, code = path.split('/')[1], code_of(text)
     used = {name: other for other, one, several in USED.findall(code) for name in [one, *parts(several)]}
-    structs = {found[1]: dict(FIELD.match(part).groups() for part in parts(within(code, found.end())))
+    structs = {found[1]: dict(FIELD.match(part).groups() for part in parts(within(code, found.end()))
+                              if not part.startswith(('ghost ', 'pub ghost ')))
                for found in STRUCT.finditer(code)}
     enums = {found[1]: [CASE.match(part)[0] for part in parts(within(code, found.end()))] for found in ENUM.finditer(code)}
     functions = []

@@ -9,7 +9,7 @@ CRATES = {path.name: path for path in sorted(pathlib.Path('crates').iterdir()) i
 EDITS = {f'{path.parent.parent.name}/{path.stem}': path
          for path in sorted(pathlib.Path('crates').glob('*/must-fail/*.edit'))}
 
-FUNCTION = re.compile(r'^\s*(?:pub )?(?:extern "C" )?(?:fn|struct|enum|const|mod) (\w+)', re.M)
+FUNCTION = re.compile(r'^\s*(?:pub )?(?:extern "C" )?(?:fn|struct|enum|trait|type|const|mod) (\w+)', re.M)
 DEFINITION = re.compile(r'^(?:pub |abbrev |unfoldable |data |record )*([^\s(){}:=]+)(?: \(.*| :.*)', re.M)
 MEMBER = re.compile(r'^  (?:pub )?([^\s(){}:=]+(?: [^\s(){}:=]+)*) :', re.M)
 THEOREM = re.compile(r'^(?:pub )?([^\s(){}:=]+) :', re.M)

@@ -13,6 +13,7 @@ CONTRACT = re.compile(r'\b(?:requires|ensures)\*?(?:\s+\w+)?\s*(?=\{)')
 GHOST = re.compile(r'\bghost use\b[^;]*;')
 STRUCT = re.compile(r'\bstruct (\w+)\s*(?=\{)')
 FIELD = re.compile(r'(?:pub )?(\w+):\s*(?:\w+::)?(.*)', re.S)
+GHOSTLY = re.compile(r'(?:pub )?ghost ')
 ENUM = re.compile(r'\benum (\w+)\s*(?=\{)')
 CASE = re.compile(r'\w+')
 FUNCTION = re.compile(r'\bfn (\w+)\s*(?:<[^(){};]*>\s*)?(?=\()')
@@ -109,8 +110,7 @@ def source(path: str, text: str) -> Source:
     """A source of a crate, by its path under crates/."""
     crate, code = path.split('/')[1], code_of(text)
     used = {name: other for other, one, several in USED.findall(code) for name in [one, *parts(several)]}
-    structs = {found[1]: dict(FIELD.match(part).groups() for part in parts(within(code, found.end()))
-                              if not part.startswith(('ghost ', 'pub ghost ')))
+    structs = {found[1]: dict(FIELD.match(part).groups() for part in parts(within(code, found.end())) if not GHOSTLY.match(part))
                for found in STRUCT.finditer(code)}
     enums = {found[1]: [CASE.match(part)[0] for part in parts(within(code, found.end()))] for found in ENUM.finditer(code)}
     functions = []

@@ -52,7 +52,11 @@ pub fn request(st: State, x: u32, w: u32) -> Effect
     let phase = Phase::Requested(phases::transfer_of(st.phase));
     let control = ask(st.control, st.levels.sdo.0 == 0);
     effect::done(
-        State { control, phase, ..st },
+        State {
+            control,
+            phase,
+            ..st
+        },
         0,
         0,
         effect::on(Queue::Sdi, true, Op::Push2(x, w)),
@@ -96,7 +100,11 @@ fn replied(odd: bool, t: Transfer) -> Phase
 fn parity_number(odd: bool) -> u32
     ensures { result ≡ cond odd 0 number.wrong_parity }
 {
-    if odd { 0 } else { u32::from(Refusal::WrongParity) }
+    if odd {
+        0
+    } else {
+        u32::from(Refusal::WrongParity)
+    }
 }
 
 // The address for the open request, taken from SDO, whose first word is `word` (`take.address`).
@@ -110,7 +118,11 @@ pub fn take_address(st: State, word: u32) -> Effect
     let phase = replied(odd, phases::transfer_of(st.phase));
     let control = ask(st.control, !odd & (st.levels.sdo.0 <= 1));
     effect::done(
-        State { control, phase, ..st },
+        State {
+            control,
+            phase,
+            ..st
+        },
         word / 0x2000000,
         parity_number(odd),
         effect::on(Queue::Sdo, true, Op::Take(1)),

@@ -70,5 +70,15 @@ pub fn finish(st: State, flags: &[u8; 128], commands: &[u32; 16], len: usize, co
     let phase = next_phase(last, flags, w);
     let control = trigger::burst_at(st.control, after(last, st.control.burst));
     let word = effect::table_if(phases::is_reading(st.phase), Table::Output(place, t.part));
-    effect::done_with(State { control, phase, ..st }, 0, 0, None, word)
+    effect::done_with(
+        State {
+            control,
+            phase,
+            ..st
+        },
+        0,
+        0,
+        None,
+        word,
+    )
 }

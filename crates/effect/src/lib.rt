@@ -68,14 +68,16 @@ fn tested(held: bool, fails: bool, why: Refusal) -> Result<(), Refusal>
 pub fn while_open(st: State) -> Result<(), Refusal>
     ensures { (n : ℕ) → told_or n result ≡ cond st.control.held number.held_in_reset (cond (idle st.phase) number.no_transfer n) }
 {
-    tested(st.control.held, phases::is_idle(st.phase), Refusal::NoTransfer)
+    let idle = phases::is_idle(st.phase);
+    tested(st.control.held, idle, Refusal::NoTransfer)
 }
 
 // The first tests of an event that begins where none is open: 5 in reset, 6 where one is (`event.open`).
 pub fn while_idle(st: State) -> Result<(), Refusal>
     ensures { (n : ℕ) → told_or n result ≡ cond st.control.held number.held_in_reset (cond (not (idle st.phase)) number.transfer_open n) }
 {
-    tested(st.control.held, !phases::is_idle(st.phase), Refusal::TransferOpen)
+    let busy = !phases::is_idle(st.phase);
+    tested(st.control.held, busy, Refusal::TransferOpen)
 }
 
 // ── Operations ─────────────────────────────────────────────────────────────────────────────────────────────────
@@ -92,7 +94,11 @@ pub fn clear_all() -> Ops
 pub fn on(q: Queue, comes: bool, o: Op) -> Ops
     ensures { ops_of result ≡ only q (cond comes (op_of o) keep) }
 {
-    if comes { Some(Five::every(Op::Keep).with(q, o)) } else { None }
+    if comes {
+        Some(Five::every(Op::Keep).with(q, o))
+    } else {
+        None
+    }
 }
 
 fn op_if(comes: bool, o: Op) -> Op

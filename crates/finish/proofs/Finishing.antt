@@ -19,4 +19,3 @@ moved_small p h =
     let t = transfer p in
     let z = three (ltb t.length.0 4096) (leb t.moved.0 (limit p)) (eqb (t.part % 2 ^ (32 - 8 * part_bytes p)) 0) h in
     below t.moved.0 (limit p) t.length.0 (ltb-true t.length.0 4096 z.0) (leb-true t.moved.0 (limit p) z.1) (capped (assigning p || unattached p) t.length.0)
-

@@ -89,8 +89,19 @@ pub fn finish(st: State, code: u8) -> Effect
     let t = phases::transfer_of(st.phase);
     let r = receipt(code, t.moved.0, st.control.sync);
     let n = removed_words(t, st.levels.sdo);
-    let o = effect::receipt_and(r, does_remove(st.phase, code), n, is_padded(st.phase), t.part);
+    let removes = does_remove(st.phase, code);
+    let pads = is_padded(st.phase);
+    let o = effect::receipt_and(r, removes, n, pads, t.part);
     let phase = Phase::Idle;
     let control = counted(st.control);
-    effect::done(State { control, phase, ..st }, r, 0, o)
+    effect::done(
+        State {
+            control,
+            phase,
+            ..st
+        },
+        r,
+        0,
+        o,
+    )
 }

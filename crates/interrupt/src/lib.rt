@@ -65,5 +65,10 @@ pub fn interrupt(st: State, f: u8, address: u8, byte: u8) -> Effect
     let data = bank::select(bank::bit(2, f as u32), byte, 0);
     let w = entry(address, data, st.control.ibisync);
     let control = accept(st.control);
-    effect::done(State { control, ..st }, w, 0, effect::on(Queue::Ibi, true, Op::Push(w)))
+    effect::done(
+        State { control, ..st },
+        w,
+        0,
+        effect::on(Queue::Ibi, true, Op::Push(w)),
+    )
 }

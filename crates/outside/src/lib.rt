@@ -81,7 +81,10 @@ pub fn call(
         Call::Finish(code) => finish::finish(st, code),
         Call::Interrupt(address, byte) => interrupt(st, flags, address, byte),
         Call::Request(v, w) => addresses::request(st, v, w),
-        Call::Take => addresses::take_address(st, rings::word(Queue::Sdo, st.caps, st.levels, h, store, 0)),
+        Call::Take => addresses::take_address(
+            st,
+            rings::word(Queue::Sdo, st.caps, st.levels, h, store, 0),
+        ),
         Call::Trigger => trigger::trigger(st, flags, commands, len),
     }
 }

@@ -31,7 +31,10 @@ pub fn is_reading(p: Phase) -> bool
 pub fn is_assigning(p: Phase) -> bool
     ensures { result ≡ assigning p }
 {
-    matches!(p, Phase::Unrequested(_) | Phase::Requested(_) | Phase::Answered(_))
+    matches!(
+        p,
+        Phase::Unrequested(_) | Phase::Requested(_) | Phase::Answered(_)
+    )
 }
 
 pub fn is_unrequested(p: Phase) -> bool

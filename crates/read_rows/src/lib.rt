@@ -73,5 +73,10 @@ pub fn take(q: Queue, st: State, word: u32) -> Effect
         return show_again(st, latest_of(q, st.control));
     }
     let control = taken(q, word, level <= 1, st.control);
-    effect::done(State { control, ..st }, word, 0, effect::on(q, true, Op::Take(1)))
+    effect::done(
+        State { control, ..st },
+        word,
+        0,
+        effect::on(q, true, Op::Take(1)),
+    )
 }

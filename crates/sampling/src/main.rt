@@ -108,13 +108,20 @@ fn square(sample: u32) -> u32 {
     sample / 25 % 2 * 50000 + 1000
 }
 
+// The digits of a number: how many.
+fn decimal(n: u32, digits: &mut [u8; 20]) -> usize
+    ensures { result ≤ 10 }
+{
+    io::decimal(u64::from(n), digits)
+}
+
 // A number in decimal, ten digits at most, and a byte after it. The answer is where the text ends.
 fn put(page: &mut [u8], at: usize, n: u32, after: u8) -> usize
     requires { at + 11 ≤ length page.old }
     ensures { result ≤ at + 11 }
 {
     let mut digits = [0u8; 20];
-    let k = io::decimal(u64::from(n), &mut digits);
+    let k = decimal(n, &mut digits);
     let end = at + k;
     page[at..end].copy_from_slice(&digits[..k]);
     page[end] = after;

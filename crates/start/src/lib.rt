@@ -128,5 +128,10 @@ pub fn start(st: State, w: u32, x: u32, flags: u8) -> Effect
     let attached = is_attached(kind_of(two, w, x), flags);
     let phase = begun_by(two, w, x, attached);
     let words = bank::select(two, 2, 1);
-    effect::done(State { phase, ..st }, w, 0, effect::on(Queue::Cmd, true, Op::Take(words)))
+    effect::done(
+        State { phase, ..st },
+        w,
+        0,
+        effect::on(Queue::Cmd, true, Op::Take(words)),
+    )
 }

@@ -19,11 +19,19 @@ fn open(b: Bank, store: &mut [u32], bytes: &[u8], out: &mut [u8]) -> StreamTurn
     ensures { (fed_left result store out ≡ opened_by (bank_lent_store b store) bytes.now (head_of bytes.now)) × Bounded 518 result bytes out }
 {
     match trace::read_head(bytes) {
-        Head::More => StreamTurn { bank: b, stage: Stage::Opening, used: 0, count: 0 },
+        Head::More => StreamTurn {
+            bank: b,
+            stage: Stage::Opening,
+            used: 0,
+            count: 0,
+        },
         Head::Wrong(why) => stream_end::close(b, why, bytes.len(), out, 0),
         Head::Right(len, records) => {
             let f = stream_records::feed_records(b, store, records, &bytes[len..], out);
-            StreamTurn { used: len + f.used, ..f }
+            StreamTurn {
+                used: len + f.used,
+                ..f
+            }
         }
     }
 }

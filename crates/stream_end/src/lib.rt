@@ -27,7 +27,10 @@ pub struct StreamTurn {
 fn refusal(why: Refusal) -> [u8; 12]
     ensures { result ≡ line_of 0 (number_of why) }
 {
-    print::line(Answer { value: 0, number: u32::from(why) })
+    print::line(Answer {
+        value: 0,
+        number: u32::from(why),
+    })
 }
 
 // A replay that ends with a number of its own: a layer, no interface.
@@ -36,7 +39,12 @@ pub fn close(bank: Bank, why: Refusal, used: usize, out: &mut [u8], at: usize) -
     ensures { ((s : List ℕ) → fed_by result s out.new ≡ stream (controller bank s []) Over used (take at out.old ++ line_of 0 (number_of why))) × (result.count ≡ at + 12) × (result.used ≡ used) }
 {
     print::put(out, at, refusal(why));
-    StreamTurn { bank, stage: Stage::Over, used, count: at + 12 }
+    StreamTurn {
+        bank,
+        stage: Stage::Over,
+        used,
+        count: at + 12,
+    }
 }
 
 // Whether there is nothing to come.

@@ -52,14 +52,24 @@ fn show_parts(
     let mut h = heads;
     for i in 0..n {
         let Some(c) = record::at(records, i) else {
-            return Lines { state: s, heads: h, wrong: true, count: 12 * i };
+            return Lines {
+                state: s,
+                heads: h,
+                wrong: true,
+                count: 12 * i,
+            };
         };
         let y = serve::step_parts(s, h, flags, commands, payloads, store, output, fault, c);
         s = y.state;
         h = y.heads;
         print::put(out, 12 * i, print::line(y.answer));
     }
-    Lines { state: s, heads: h, wrong: false, count: 12 * n }
+    Lines {
+        state: s,
+        heads: h,
+        wrong: false,
+        count: 12 * n,
+    }
 }
 
 // The first `n` records and their lines: a layer, no interface.
@@ -70,9 +80,23 @@ pub fn show(b: Bank, store: &mut [u32], records: &[u8], n: usize, out: &mut [u8]
     let fault = faults::fault(b, store.len());
     let mut bank = b;
     let y = show_parts(
-        b.state, b.heads, &mut bank.flags, &mut bank.commands, &mut bank.payloads, store, &mut [], fault, records, n, out,
+        b.state,
+        b.heads,
+        &mut bank.flags,
+        &mut bank.commands,
+        &mut bank.payloads,
+        store,
+        &mut [],
+        fault,
+        records,
+        n,
+        out,
     );
     bank.state = y.state;
     bank.heads = y.heads;
-    Shown { bank, wrong: y.wrong, count: y.count }
+    Shown {
+        bank,
+        wrong: y.wrong,
+        count: y.count,
+    }
 }

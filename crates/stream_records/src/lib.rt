@@ -33,5 +33,10 @@ pub fn feed_records(
     if (n == due) & (12 * n < len) {
         return stream_end::close(p.bank, Refusal::WrongTable, len, out, p.count);
     }
-    StreamTurn { bank: p.bank, stage: Stage::Records(due - n), used: 12 * n, count: p.count }
+    StreamTurn {
+        bank: p.bank,
+        stage: Stage::Records(due - n),
+        used: 12 * n,
+        count: p.count,
+    }
 }

@@ -1,17 +1,11 @@
 // What `timing_list` and `timing_each` share: the bank that they set up, and where the last answer goes.
 #![tactic(auto)]
 
-ghost use Rattle.std.specs.Prelude.{◌≡◌, ◌-◌};
+ghost use Rattle.std.specs.Prelude.{◌≡◌};
 ghost use Rattle.timing.specs.Timing.{fresh_of, kept_in};
 
 use bank::{Answer, Bank};
 use queues::Five;
-
-fn less_one(cap: u32) -> u32
-    ensures { result ≡ cap - 1 }
-{
-    if cap == 0 { 0 } else { cap - 1 }
-}
 
 // A bank with queues of `cap` words, the watermark 1 for CMD and SDO, one less than `cap` for the other three, and ID
 // 0.
@@ -25,7 +19,7 @@ pub fn fresh(cap: u32) -> Bank
         sdi: cap,
         ibi: cap,
     };
-    let most = less_one(cap);
+    let most = cap.saturating_sub(1);
     let marks = Five {
         cmd: 1,
         cmdr: most,
@@ -33,8 +27,7 @@ pub fn fresh(cap: u32) -> Bank
         sdi: most,
         ibi: most,
     };
-    let r = setup::set_up(caps, marks, 0);
-    r.bank
+    setup::set_up(caps, marks, 0).bank
 }
 
 // The last answer, where there is room for it.

@@ -22,10 +22,7 @@ fn step_once(b: Bank, call: Call, store: &mut [u32], output: &mut [u32]) -> Out
 {
     let mut bank = b;
     let answer = inplace::step_in_place(&mut bank, store, output, call);
-    Out {
-        bank: bank,
-        answer: answer,
-    }
+    Out { bank, answer }
 }
 
 // The first `n` records, up to a wrong one, and what is told of them. Every call is lent an empty output.
@@ -40,8 +37,7 @@ fn replay_records(b: Bank, store: &mut [u32], records: &[u8], n: usize) -> Repor
     };
     let mut none = [0u32; 0];
     for i in 0..n {
-        let named = record::at(records, i);
-        let Some(call) = named else {
+        let Some(call) = record::at(records, i) else {
             return Report {
                 number: u32::from(Refusal::WrongRecord),
                 count: i,
@@ -64,12 +60,10 @@ fn replay_records(b: Bank, store: &mut [u32], records: &[u8], n: usize) -> Repor
 pub extern "C" fn replay_each(cap: u32, store: &mut [u32], file: &[u8], last: &mut [u32]) -> u32
     ensures { timed result store.new last.new ≡ timed_of cap store.old file.now last.old }
 {
-    let bank = timing::fresh(cap);
     let records = trace::section(file, 0).unwrap_or(&[]);
     // All of them: no section has more records than its file has bytes.
     let n = record::whole(file.len(), records);
-    let told = replay_records(bank, store, records, n);
-    let answer = told.answer;
-    timing::keep(last, answer);
+    let told = replay_records(timing::fresh(cap), store, records, n);
+    timing::keep(last, told.answer);
     (told.count % 4294967296) as u32
 }

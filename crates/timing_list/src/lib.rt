@@ -18,10 +18,7 @@ fn replay_once(b: Bank, store: &mut [u32], file: &[u8], i: u32, limit: usize) ->
 {
     let mut bank = b;
     let told = playback::replay_in_place(&mut bank, store, file, i, limit);
-    Replayed {
-        bank: bank,
-        told: told,
-    }
+    Replayed { bank, told }
 }
 
 // Replays section 0 of a trace on a bank with every capacity `cap`, and gives how many records it did.
@@ -29,9 +26,7 @@ fn replay_once(b: Bank, store: &mut [u32], file: &[u8], i: u32, limit: usize) ->
 pub extern "C" fn replay_trace(cap: u32, store: &mut [u32], file: &[u8], last: &mut [u32]) -> u32
     ensures { timed result store.new last.new ≡ timed_of cap store.old file.now last.old }
 {
-    let bank = timing::fresh(cap);
-    let out = replay_once(bank, store, file, 0, file.len());
-    let answer = out.told.answer;
-    timing::keep(last, answer);
-    (out.told.count % 4294967296) as u32
+    let told = replay_once(timing::fresh(cap), store, file, 0, file.len()).told;
+    timing::keep(last, told.answer);
+    (told.count % 4294967296) as u32
 }

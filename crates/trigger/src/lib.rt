@@ -63,5 +63,14 @@ pub fn trigger(st: State, flags: &[u8; 128], commands: &[u32; 16], len: usize) -
     let at = (w / 2 % 0x80) as usize;
     let phase = start::private_phase(w, flags[at]);
     let control = burst_at(st.control, 1);
-    effect::done(State { control, phase, ..st }, 0, 0, None)
+    effect::done(
+        State {
+            control,
+            phase,
+            ..st
+        },
+        0,
+        0,
+        None,
+    )
 }

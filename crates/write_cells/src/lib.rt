@@ -29,7 +29,10 @@ fn put_regs(st: State, regs: Regs) -> Effect
 pub fn write_scratch(st: State, x: u32) -> Effect
     ensures { (t : Tables) (f : Fronts) → effect_of result t ≡ verdict (λ v. write (row Scratch) v x) (seen st t f) }
 {
-    let regs = Regs { scratch: x, ..st.regs };
+    let regs = Regs {
+        scratch: x,
+        ..st.regs
+    };
     put_regs(st, regs)
 }
 
@@ -38,7 +41,10 @@ pub fn write_scratch(st: State, x: u32) -> Effect
 pub fn write_mask(st: State, x: u32) -> Effect
     ensures { (t : Tables) (f : Fronts) → effect_of result t ≡ verdict (λ v. write (row IrqMask) v x) (seen st t f) }
 {
-    let regs = Regs { mask: (x % 0x100) as u8, ..st.regs };
+    let regs = Regs {
+        mask: (x % 0x100) as u8,
+        ..st.regs
+    };
     put_regs(st, regs)
 }
 
@@ -47,7 +53,10 @@ pub fn write_mask(st: State, x: u32) -> Effect
 pub fn write_config(st: State, x: u32) -> Effect
     ensures { (t : Tables) (f : Fronts) → effect_of result t ≡ verdict (λ v. write (row IbiConfig) v x) (seen st t f) }
 {
-    let regs = Regs { config: (x % 4) as u8, ..st.regs };
+    let regs = Regs {
+        config: (x % 4) as u8,
+        ..st.regs
+    };
     put_regs(st, regs)
 }
 
@@ -69,7 +78,10 @@ pub fn write_ops(st: State, x: u32) -> Effect
     if let Err(why) = burst_tests(st.control) {
         return effect::refuse(st, why);
     }
-    let regs = Regs { ops: (x % 0x80) as u8, ..st.regs };
+    let regs = Regs {
+        ops: (x % 0x80) as u8,
+        ..st.regs
+    };
     put_regs(st, regs)
 }
 
@@ -79,9 +91,18 @@ pub fn write_device(st: State, x: u32) -> Effect
     ensures { (t : Tables) (f : Fronts) → effect_of result t ≡ verdict (λ v. write (row DevChar) v x) (seen st t f) }
 {
     let address = x / 0x200 % 0x80;
-    let regs = Regs { selected: address as u8, ..st.regs };
+    let regs = Regs {
+        selected: address as u8,
+        ..st.regs
+    };
     let flags = Table::Flags(address, (x / 2 % 8) as u8);
-    effect::done_with(State { regs, ..st }, 0, 0, None, effect::table_if(bank::bit(8, x), flags))
+    effect::done_with(
+        State { regs, ..st },
+        0,
+        0,
+        None,
+        effect::table_if(bank::bit(8, x), flags),
+    )
 }
 
 // A write of one word of an offload memory (`offload.keeps`).

@@ -43,7 +43,16 @@ fn reset(st: State) -> Effect
 {
     let control = bank::cleared_control(true);
     let phase = Phase::Idle;
-    effect::done(State { control, phase, ..st }, 0, 0, effect::clear_all())
+    effect::done(
+        State {
+            control,
+            phase,
+            ..st
+        },
+        0,
+        0,
+        effect::clear_all(),
+    )
 }
 
 // ENABLE written 0 (`enable.release`).
@@ -51,14 +60,21 @@ fn reset(st: State) -> Effect
 fn release(st: State) -> Effect
     ensures { (t : Tables) (f : Fronts) → effect_of result t ≡ enable (seen st t f) false }
 {
-    let control = Control { held: false, ..st.control };
+    let control = Control {
+        held: false,
+        ..st.control
+    };
     effect::done(State { control, ..st }, 0, 0, None)
 }
 
 pub fn write_enable(st: State, x: u32) -> Effect
     ensures { (t : Tables) (f : Fronts) → effect_of result t ≡ verdict (λ v. write (row Enable) v x) (seen st t f) }
 {
-    if bank::bit(0, x) { reset(st) } else { release(st) }
+    if bank::bit(0, x) {
+        reset(st)
+    } else {
+        release(st)
+    }
 }
 
 // The tests of a push: 5 in reset, 1 where the queue is full (`cmd.push`, `sdo.push`).
@@ -95,5 +111,10 @@ pub fn write_sdo(st: State, x: u32) -> Effect
         daapending: false,
         ..st.control
     };
-    effect::done(State { control, ..st }, 0, 0, effect::on(Queue::Sdo, true, Op::Push(x)))
+    effect::done(
+        State { control, ..st },
+        0,
+        0,
+        effect::on(Queue::Sdo, true, Op::Push(x)),
+    )
 }

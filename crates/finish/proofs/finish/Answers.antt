@@ -14,7 +14,7 @@ returns-in-Err c = λ t f.
 pub returns : goal.returns
 unfolding finish
 returns c = λ t f.
-    rw (c.done.ensures t, c.receipt_and-o.ensures, c.does_remove.ensures, c.removed_words-n.ensures, c.counted-control.ensures, c.receipt-r.ensures, c.is_padded.ensures, c.transfer_of-t.ensures)
+    rw (c.done.ensures t, c.receipt_and-o.ensures, c.does_remove-removes.ensures, c.removed_words-n.ensures, c.counted-control.ensures, c.receipt-r.ensures, c.is_padded-pads.ensures, c.transfer_of-t.ensures)
     (served_ok (λ (v : View). finish v c.args.code) (seen c.args.st t f) _ (c.finish_tests.ensures t f) refl _ c.in_default.is)
 
 pub receipt-r-requires : goal.receipt-r-requires

@@ -12,8 +12,8 @@ returns c =
     let a = c.args in
     let t = c.replay_records-told.ensures in
     let records = handed a.file.now c.section.result _ _ refl c.unwrap_or-records.ensures c.section.ensures.number c.section.ensures.result_value in
-    let e = same a.file.now _ (controller c.fresh-bank.result a.store.now []) _ _ c.section.ensures.number records c.whole-n.ensures.0 c.whole-n.ensures.1
-    ∙ ap (λ (b : Bank). unnumbered (replay_of a.file.now 0 (length a.file.now) (controller b a.store.now []))) c.fresh-bank.ensures in
+    let e = same a.file.now _ (controller c.fresh.result a.store.now []) _ _ c.section.ensures.number records c.whole-n.ensures.0 c.whole-n.ensures.1
+    ∙ ap (λ (b : Bank). unnumbered (replay_of a.file.now 0 (length a.file.now) (controller b a.store.now []))) c.fresh.ensures in
     ap (timed _ _) c.keep.ensures
     ∙ (λ i. timed ((t.0 i).count % 2 ^ 32) (t.1 i) (kept_in a.last.now (t.0 i).answer))
     ∙ ap (λ (x : Replay). timed (x.told.count % 2 ^ 32) x.left.store (kept_in a.last.now x.told.answer)) e

@@ -27,7 +27,7 @@ ARROW = re.compile('[-=]>')
 
 @dataclasses.dataclass(frozen=True)
 class Call:
-    """`crate::name(..)`; `Type::name(..)` with the type's crate; `value.name(..)` with no crate, the value its first argument."""
+    """`crate::name(..)`; `Type::name(..)` with the type's crate; `value.name(..)` without one, the value its first argument."""
     crate: str
     of: str
     name: str

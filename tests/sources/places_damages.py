@@ -54,7 +54,7 @@ DAMAGES = (
      'Op::Clear => if base % 2 == 0 { ring::clear(r) } else { r }', 'ring_moves::apply has a head and divides'),
     ('a division in what removes', 'crates/finish/src/lib.rt', 'ring::words_for(t.length).0.min', '(t.length.0 / 4).min',
      'finish::removed_words counts words and divides'),
-    ('a watermark by a capacity', 'crates/watermarks/src/lib.rt', 'x % 0x10000', 'x % 1024',
+    ('a division where words are counted', 'crates/watermarks/src/lib.rt', 'Words(low)', 'Words(low % 1024)',
      'watermarks::write_watermark counts words and divides'),
     ('a division in the operation that removes', EFFECT, 'Op::Take(n))', 'Op::Take(n / 1))',
      'effect::receipt_and passes an operation and divides'),
@@ -99,10 +99,10 @@ DAMAGES = (
      'later::push has a head and divides'),
     ('a later ring with places of its own', LATER, '', OWN % '    bytes[(l.list_head + l.count) as usize] = b;\n    l',
      'later::push has a head and computes'),
-    ('a later ring with a remainder in a method', LATER, '', METHOD % '        bytes[(self.list_head % self.cap) as usize] = b;\n',
-     'later::push has a head and divides'),
-    ('a later ring with places of its own in a method', LATER, '', METHOD % '        bytes[(self.list_head + self.count) as usize] = b;\n',
-     'later::push has a head and computes'),
+    ('a later ring with a remainder in a method', LATER, '',
+     METHOD % '        bytes[(self.list_head % self.cap) as usize] = b;\n', 'later::push has a head and divides'),
+    ('a later ring with places of its own in a method', LATER, '',
+     METHOD % '        bytes[(self.list_head + self.count) as usize] = b;\n', 'later::push has a head and computes'),
     ('a head handed to a method that subtracts', LATER, '', 'struct Gap {\n    room: u32,\n}\n\nimpl Gap {\n'
      '    fn less(self, n: u32) -> u32 {\n        self.room - n\n    }\n}\n\nfn left(h: bank::Heads, g: Gap) -> u32 {\n'
      '    g.less(h.cmd)\n}\n', 'later::less is handed a head by later::left and computes'),
@@ -125,7 +125,8 @@ DAMAGES = (
     ('a ghost use', RING, 'ghost use Rattle.ring.specs.Units.{words_for};',
      'ghost use Rattle.ring.specs.Units.{words_for, ◌%◌, ◌/◌};', ''),
     ('letters', SETTLE, 'let next = State {', 'let slash = b\'/\';\n    let text = b"% // +";\n    let next = State {', ''),
-    ('a fact among the fields', RING, '    pub level: Words,', '    pub level: Words,\n    ghost few: { level.0 % 7 < 8 / 2 },', ''),
+    ('a fact among the fields', RING, '    pub level: Words,',
+     '    pub level: Words,\n    ghost few: { level.0 % 7 < 8 / 2 },', ''),
     ('a trait, whose functions have no body', LATER, '', 'trait Lists {\n    fn push(&mut self, bytes: [u8; 4]) -> u32;\n}\n\n'
      'fn half(n: u32) -> u32 {\n    n / 2\n}\n', ''),
     ('a later ring by ring', LATER, '', 'fn give(r: ring::Ring, base: usize, words: &mut [u32], w: u32) -> ring::Ring {\n'

@@ -7,10 +7,11 @@ From the repository's root. It reads crates/*/src without comments, contracts an
 field `head`, or the struct that a field `heads` has. A function *has a head* where it names a ring type or a field or
 parameter `head`, calls what takes or gives a ring type, is handed a head, or is called by what gives one. It *counts words*
 where it names a struct that a ring is made of, and *passes an operation* where it takes or gives an enum with a case `Push`,
-or a struct of such.
+or a struct or another name of such.
 
 - No division stands in `ring`, but for the round-up by four, nor in a function that has a head, counts words or passes an
-  operation, nor in what is called by a function with a whole ring.
+  operation, nor in what is called by a function with a whole ring. A function that no more than counts words may cut a
+  written number to its 16 bits, by a remainder by 0x10000: no set-up has a ring of so many places.
 - Outside `ring`, a function that has a head computes nothing: it copies, compares and hands on.
 - Outside `ring`, no slice that a ring lies in is indexed.
 
@@ -31,6 +32,7 @@ from tests.sources.places_damages import DAMAGES
 HOME = 'ring'
 ROUND_UP = 'ring::words_for'
 BY_FOUR = re.compile(r'[/%]\s*4\b')
+BITS = re.compile(r'%\s*0x10000\b')
 DIVISION = re.compile(r'[/%]|>>|\b(?:\w+_)?(?:div|rem)(?:_\w+)?\s*\(')
 # Not products: they find no place. `&` before a number is a mask, so a remainder.
 COMPUTED = re.compile(r'\+|-(?!>)|\^|<<|&\s*\d|\bstd::num::|\b(?:wrapping|checked|saturating|overflowing)_\w+')
@@ -50,22 +52,31 @@ def any_of(names: set[str]) -> str:
 class Code:
     def __init__(self, texts: dict[str, str]):
         self.sources = [source(path, text) for path, text in texts.items()]
-        self.functions = {str(one): one for each in self.sources for one in each.functions}
-        self.outside = [one for one in self.functions.values() if one.crate != HOME]
+        self.functions = [one for each in self.sources for one in each.functions]
+        self.outside = [one for one in self.functions if one.crate != HOME]
+        self.named: dict[str, list[Function]] = {}
+        for one in self.functions:
+            self.named.setdefault(one.name, []).append(one)
         structs = {name: fields for each in self.sources for name, fields in each.structs.items()}
         rings = {name for name, fields in structs.items() if any(re.fullmatch(HEAD, field) for field in fields)}
         several = {kind for fields in structs.values() for field, kind in fields.items() if field == 'heads'}
         made_of = {kind for name in rings for kind in structs[name].values() if NAMED.fullmatch(kind)}
         operations = {name for each in self.sources for name, cases in each.enums.items() if 'Push' in cases}
         operations |= {name for name, fields in structs.items() if operations & {*fields.values()}}
+        operations |= {name for each in self.sources for name, kind in each.aliases.items()
+                       if re.search(any_of(operations), kind)}
         self.ring, self.heads = any_of(rings), any_of(several)
         self.count, self.operation = any_of(made_of), any_of(operations)
         self.having = self.with_heads()
 
     def called(self, function: Function) -> Iterator[tuple[Call, Function]]:
+        """The calls of a function with what each calls. The type of a value is not known: `value.name(..)` may be any method of
+        that name."""
         for call in function.calls:
-            if one := self.functions.get(f'{call.crate}::{call.name}'):
-                yield call, one
+            for one in self.named.get(call.name, ()):
+                if (one.crate, one.of) == (call.crate, call.of) or not call.crate and one.of or \
+                        call.of == 'Self' and (one.crate, one.of) == (function.crate, function.of):
+                    yield call, one
 
     def beneath(self, above: list[Function]) -> dict[Function, str]:
         """What these call outside `ring`, and what that calls, and so on, each with a caller."""
@@ -93,9 +104,9 @@ class Code:
         for name, value in BOUND.findall(function.text):
             if value in several or value.endswith('.heads') or re.match(rf'(?:\w+::)?{any_of(gives)}', value):
                 several.add(name)
-            elif re.fullmatch(rf'\w+\.{HEAD}|{any_of(several)}\.\w+|{any_of(given)}', value):
+            elif re.fullmatch(rf'[\w.]+\.{HEAD}|(?:[\w.]+\.heads|{any_of(several)})\.\w+(?:\([^()]*\))?|{any_of(given)}(?:\.\w+)?', value):
                 given = given | {name}
-        return re.compile(rf'\.{HEAD}\b|{any_of(several)}\s*\.|{any_of(given)}')
+        return re.compile(rf'\.{HEAD}s?\b|{any_of(several)}\s*(?:\.|$)|{any_of(given)}')
 
     def with_heads(self) -> dict[Function, str]:
         """The functions outside `ring` that have a head, and how."""
@@ -108,7 +119,8 @@ class Code:
             above = left.pop()
             head = self.handing(above, given.get(above, set()))
             for call, one in self.called(above):
-                handed = {name for (name, _), argument in zip(one.parameters, call.arguments) if head.search(argument)}
+                handed = {name for (name, kind), argument in zip(one.parameters, call.arguments)
+                          if head.search(argument) and not re.search(self.heads, kind)}
                 if one.crate != HOME and not handed <= given.setdefault(one, set()):
                     given[one] |= handed
                     found.setdefault(one, f'is handed a head by {above}')
@@ -133,19 +145,20 @@ class Code:
         passing = {one: 'passes an operation' for one in self.outside if re.search(self.operation, one.types())}
         counting = {one: 'counts words' for one in self.outside if re.search(self.count, one.text)}
         for one, why in {**passing, **counting, **self.beneath(whole), **self.having}.items():
+            text = BITS.sub(lambda found: blanks(found[0]), one.text) if why == counting.get(one) else one.text
             yield from ((one.path, one.line_at(found.start()), f'{one} {why} and divides')
-                        for found in DIVISION.finditer(one.text))
+                        for found in DIVISION.finditer(text))
         for one, why in self.having.items():
             yield from ((one.path, one.line_at(found.start()), f'{one} {why} and computes')
                         for found in COMPUTED.finditer(one.text))
 
     def lent(self) -> set[tuple[Function, str]]:
         """The slices that rings lie in, by function and name: those of `ring`, and what is handed to them."""
-        found = {(one, name) for one in self.functions.values() if one.crate == HOME
+        found = {(one, name) for one in self.functions if one.crate == HOME
                  for name, kind in one.parameters if '[' in kind}
         grows = True
         while grows:
-            handed = {(above, base[1]) for above in self.functions.values() for call, one in self.called(above)
+            handed = {(above, base[1]) for above in self.functions for call, one in self.called(above)
                       for (name, _), argument in zip(one.parameters, call.arguments)
                       if (one, name) in found and (base := re.match(r'(?:&\s*)?(?:mut\s+)?(\w+)', argument))}
             grows = not handed <= found

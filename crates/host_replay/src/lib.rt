@@ -2,16 +2,29 @@
 // answered by the same loop: on a bank that is not well formed, on which each record is answered 21. A layer, no interface.
 #![tactic(auto)]
 
-ghost use Rattle.std.specs.Prelude.{◌≡◌, false, List, ℕ};
+ghost use Rattle.std.specs.Prelude.{◌≡◌, true, false, length, MatchOption};
 ghost use Rattle.answer.specs.Memory.{lent_without, left_without, controller_of};
 ghost use Rattle.playback_model.specs.Replay.{replay_of};
-ghost use Rattle.image_model.specs.Image.{kept, is_kept};
+ghost use Rattle.image_model.specs.Image.{size, encoded, Kept, is_kept};
 ghost use Rattle.player.specs.Given.{reached_with};
-ghost use Rattle.host_parts.specs.Lent.{loan, lent_all, left_all, gave, replay_on};
+ghost use Rattle.host_parts.specs.Lent.{lent_all, left_all, gave, replay_on};
 
 use bank::{Heads, State};
-use image_model::SIZE;
+use image_model::{Image, SIZE};
 use replayed::Reached;
+
+// The words of an image, where a state has them.
+fn said(image: &[u32]) -> Option<Image>
+    ensures { MatchOption result ((k : Kept) → k.image ≡ image.now → is_kept k ≡ false) (λ ws. (length image.now ≡ size) × (ws ≡ image.now) × (encoded image.now ≡ true)) }
+{
+    let Some(words) = image.as_array::<SIZE>() else {
+        return None;
+    };
+    if !image::is_encoded(words) {
+        return None;
+    }
+    Some(*words)
+}
 
 // Replay of a section on a bank by its parts, with the tables where they lie and an empty output.
 fn on_parts(
@@ -39,27 +52,9 @@ fn on_parts(
     )
 }
 
-// Replay for words of no state: on the bank that zeros say, which is not well formed, since its queues have no room.
-fn on_none(
-    flags: &mut [u8; 128],
-    commands: &mut [u32; 16],
-    payloads: &mut [u32; 16],
-    store: &mut [u32],
-    file: &[u8],
-    i: u32,
-    limit: usize,
-    told: &mut [u32],
-) -> u32
-    ensures { (ws : List ℕ) → is_kept (kept ws flags.old commands.old payloads.old) ≡ false → gave result (loan (kept ws flags.new commands.new payloads.new) store.new told.new) ≡ replay_on file.now i limit (loan (kept ws flags.old commands.old payloads.old) store.old told.old) }
-{
-    let none = [0; SIZE];
-    let s = image_fields::state_in(&none);
-    let h = image_fields::heads_in(&none);
-    let y = on_parts(s, h, flags, commands, payloads, store, file, i, limit);
-    host_parts::tell(y.told, told)
-}
-
-// What is kept of a bank becomes that of the bank that the records left; anything else stays.
+// What is kept of a bank becomes that of the bank that the records left; anything else stays. Words of no state are
+// answered by the same call, so that the records have one loop: on the bank that zeros say, which is not well formed, since
+// its queues have no room.
 pub fn replay(
     image: &mut [u32],
     flags: &mut [u8; 128],
@@ -73,15 +68,15 @@ pub fn replay(
 ) -> u32
     ensures { gave result (left_all image flags commands payloads store told) ≡ replay_on file.now i limit (lent_all image flags commands payloads store told) }
 {
-    let Some(image) = image.as_mut_array::<SIZE>() else {
-        return on_none(flags, commands, payloads, store, file, i, limit, told);
-    };
-    if !image::is_encoded(image) {
-        return on_none(flags, commands, payloads, store, file, i, limit, told);
-    }
-    let s = image_fields::state_in(image);
-    let h = image_fields::heads_in(image);
+    let said = said(image);
+    let mut words = said.unwrap_or([0; SIZE]);
+    let s = image_fields::state_in(&words);
+    let h = image_fields::heads_in(&words);
     let y = on_parts(s, h, flags, commands, payloads, store, file, i, limit);
-    image_words::encode(y.state, y.heads, image);
+    if said.is_none() {
+        return host_parts::tell(y.told, told);
+    }
+    image_words::encode(y.state, y.heads, &mut words);
+    image.copy_from_slice(&words);
     host_parts::tell(y.told, told)
 }

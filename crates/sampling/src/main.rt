@@ -3,7 +3,7 @@
 // had the number 0.
 #![tactic(auto)]
 
-ghost use Rattle.std.specs.Prelude.{◌+◌, ◌≤◌, length};
+ghost use Rattle.std.specs.Prelude.{◌≡◌, ◌+◌, ◌≤◌};
 
 use bank::Bank;
 use model::Call;
@@ -115,55 +115,67 @@ fn decimal(n: u32, digits: &mut [u8; 20]) -> usize
     io::decimal(u64::from(n), digits)
 }
 
-// A number in decimal, ten digits at most, and a byte after it. The answer is where the text ends.
-fn put(page: &mut [u8], at: usize, n: u32, after: u8) -> usize
-    requires { at + 11 ≤ length page.old }
-    ensures { result ≤ at + 11 }
-{
-    let mut digits = [0u8; 20];
-    let k = decimal(n, &mut digits);
-    let end = at + k;
-    page[at..end].copy_from_slice(&digits[..k]);
-    page[end] = after;
-    end + 1
+// Lines that are not written yet: the first `at` bytes of a text.
+#[derive(Clone, Copy)]
+struct Page {
+    text: [u8; 4096],
+    at: usize,
 }
 
-// A line of the table: of each word the two bytes that were read.
-fn line(page: &mut [u8], at: usize, sample: u32, words: [u32; 3]) -> usize
-    requires { at + 44 ≤ length page.old }
-    ensures { result ≤ at + 44 }
-{
-    let [a, b, c] = words;
-    let at = put(page, at, sample, b',');
-    let at = put(page, at, a / 65536, b',');
-    let at = put(page, at, b / 65536, b',');
-    put(page, at, c / 65536, b'\n')
-}
-
-// The front of a page, where the output takes it.
-fn write<W: Write>(output: &mut W, page: &[u8], at: usize)
-    requires { at ≤ length page.now }
-{
-    let _ = output.write_all(&page[..at]);
-}
-
-// A page without room for another line is written, and begins anew.
-fn turned<W: Write>(output: &mut W, page: &[u8], at: usize) -> usize
-    requires { (at ≤ length page.now) × (44 ≤ length page.now) }
-    ensures { result + 44 ≤ length page.now }
-{
-    if at + 44 <= page.len() {
-        return at;
+impl Page {
+    // A number in decimal, ten digits at most, and a byte after it.
+    fn put(&mut self, n: u32, after: u8)
+        requires { self.old.at + 11 ≤ 4096 }
+        ensures { self.new.at ≤ self.old.at + 11 }
+    {
+        let mut digits = [0u8; 20];
+        let k = decimal(n, &mut digits);
+        let end = self.at + k;
+        let text = &mut self.text[..];
+        text[self.at..end].copy_from_slice(&digits[..k]);
+        text[end] = after;
+        self.at = end + 1;
     }
-    write(output, page, at);
-    0
+
+    // A line of the table: of each word the two bytes that were read.
+    fn line(&mut self, sample: u32, words: [u32; 3])
+        requires { self.old.at + 44 ≤ 4096 }
+        ensures { self.new.at ≤ self.old.at + 44 }
+    {
+        let [a, b, c] = words;
+        self.put(sample, b',');
+        self.put(a / 65536, b',');
+        self.put(b / 65536, b',');
+        self.put(c / 65536, b'\n');
+    }
+
+    // The page is written, where the output takes it, and begins anew.
+    fn write<W: Write>(&mut self, output: &mut W)
+        requires { self.old.at ≤ 4096 }
+        ensures { self.new.at ≡ 0 }
+    {
+        let _ = output.write_all(&self.text[..self.at]);
+        self.at = 0;
+    }
+
+    // A page without room for another line is written.
+    fn turn<W: Write>(&mut self, output: &mut W)
+        requires { self.old.at ≤ 4096 }
+        ensures { self.new.at + 44 ≤ 4096 }
+    {
+        if 4096 < self.at + 44 {
+            self.write(output);
+        }
+    }
 }
 
 // A burst with an answer that is not 0 ends the table, without its line.
 fn main(rt: HostRuntime) {
     let mut output = rt.stdout();
-    let mut page = [0u8; 4096];
-    let mut at = 0;
+    let mut page = Page {
+        text: [0; 4096],
+        at: 0,
+    };
     let mut board = Board::ready();
     let _ = output.write_all(b"sample,channel0,channel1,channel2\n");
     for sample in 0..SAMPLES {
@@ -171,10 +183,10 @@ fn main(rt: HostRuntime) {
         if !board.good {
             break;
         }
-        at = line(&mut page, at, sample, board.words);
-        at = turned(&mut output, &page, at);
+        page.line(sample, board.words);
+        page.turn(&mut output);
     }
-    write(&mut output, &page, at);
+    page.write(&mut output);
     let _ = output.write_all(if board.good {
         b"# all answers 0\n"
     } else {

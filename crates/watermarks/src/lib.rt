@@ -1,7 +1,7 @@
 // Watermarks as registers (`watermark.keeps`): a write to one, as a decision.
 #![tactic(auto)]
 
-ghost use Rattle.std.specs.Prelude.{◌≡◌, ◌%◌, ◌^◌};
+ghost use Rattle.std.specs.Prelude.{◌≡◌};
 ghost use Rattle.registers.specs.declared.Register.TheVariants.{Watermark};
 ghost use Rattle.model.specs.View.{Tables};
 ghost use Rattle.model.specs.Registers.{row, write};
@@ -14,19 +14,12 @@ use number::Refusal;
 use queues::Queue;
 use ring::Words;
 
-// The bits of a word that a watermark has.
-fn low_half(x: u32) -> u32
-    ensures { result ≡ x % 2 ^ 16 }
-{
-    x % 0x10000
-}
-
 // A write to a watermark: its low 16 bits, or 30 where they are above the capacity.
 #[tactic(auto, unfolding(effect::specs::Effects::verdict))]
 pub fn write_watermark(st: State, q: Queue, x: u32) -> Effect
     ensures { (t : Tables) (f : Fronts) → effect_of result t ≡ verdict (λ v. write (row (Watermark q)) v x) (seen st t f) }
 {
-    let low = low_half(x);
+    let low = x % 0x10000;
     let cap = st.caps.of(q);
     if cap.0 < low {
         return effect::refuse(st, Refusal::WatermarkAboveCapacity);

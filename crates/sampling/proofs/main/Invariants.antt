@@ -3,4 +3,4 @@ use Rattle.std.proofs.Common.{◌+◌, ◌≤◌}
 use Rattle.sampling.proofs.main.Given as goal
 
 abbrev pub invariant-loop-sample : goal.invariant-loop-sample
-invariant-loop-sample l = l.at + 44 ≤ 4096
+invariant-loop-sample l = l.page.at + 44 ≤ 4096

@@ -7,4 +7,4 @@ use Rattle.watermarks.proofs.write_watermark.Goals as goal
 pub returns-then-cap-low : goal.returns-then-cap-low
 returns-then-cap-low c =
     let a = c.args in
-    λ t f. c.refuse.ensures t f ∙ above a.q a.x a.st t f (subst (λ (n : ℕ). n < a.x % 2 ^ 16) (ap (λ (w : Words). w.0) c.of-cap.ensures) (subst (λ (m : ℕ). c.of-cap.result.0 < m) c.low_half-low.ensures c.if-cap-low.true))
+    λ t f. c.refuse.ensures t f ∙ above a.q a.x a.st t f (subst (λ (n : ℕ). n < a.x % 2 ^ 16) (ap (λ (w : Words). w.0) c.of-cap.ensures) c.if-cap-low.true)

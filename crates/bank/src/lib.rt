@@ -44,7 +44,8 @@ pub struct Latest {
 
 // What a reset sets besides the queues and the transfer (`enable.reset`): the ENABLE bit, the sync of receipts and that
 // of interrupts, the pending bits 5, 6 and 7, where an offload burst stands (0 where none is open, else 1 more than
-// the place of the command whose transfer is open), and the words last read.
+// the place of the command whose transfer is open: a number and no `Option`, since `bursting`, `place` and a host's image
+// have it so), and the words last read.
 #[derive(Clone, Copy, PartialEq, Eq)]
 pub struct Control {
     pub held: bool,

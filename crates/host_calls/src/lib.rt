@@ -29,6 +29,7 @@ pub fn set_up(
     ensures { fresh result (kept_left image flags commands payloads) ≡ set_up_in (kept_lent image flags commands payloads) caps marks id }
 {
     let r = setup::set_up(caps, marks, id);
+    // The number of the C interface.
     let number = r.answer.number;
     if number != 0 {
         return number;

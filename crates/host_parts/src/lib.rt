@@ -10,7 +10,7 @@ use bank::Answer;
 use number::Refusal;
 use playback_model::Report;
 
-// A value in the low half, its number in the high half.
+// A value in the low half, its number in the high half. No `From`: `bank`, which has the type, knows no host.
 pub fn packed(a: Answer) -> u64
     ensures { result ≡ packed_of a }
 {

@@ -48,6 +48,7 @@ fn bit_in(image: &Image, at: usize) -> bool
     image[at] == 1
 }
 
+// No `TryFrom`: by the definitions every number says a kind, and every number a phase.
 fn kind_in(n: u32) -> Kind
     ensures { result ≡ kind_in n }
 {

@@ -11,7 +11,8 @@ use model::Call;
 // A line so far.
 #[derive(Clone, Copy)]
 pub struct Reading {
-    // 0 before the first byte; 1, which is no letter, once the line can name no call.
+    // 0 before the first byte; 1, which is no letter, once the line can name no call. Numbers, and no enum: `reading_with`
+    // and the theorems on the grammar have them.
     pub letter: u8,
     // How many digits the field at hand may still take.
     pub room: u8,
@@ -25,7 +26,7 @@ pub struct Reading {
     pub value: u32,
 }
 
-// The value of a hex digit, or 16.
+// The value of a hex digit, or 16, as the grammar has it (`hex_of`).
 fn hex(b: u8) -> u32
     ensures { result ≡ hex_of b }
 {

@@ -13,6 +13,7 @@ pub fn write_counted<W: Write>(to: &mut W, bytes: &[u8]) -> usize
     ensures bound { result ≤ length bytes.now }
     ensures written { Appends (W.contents to.old) (W.contents to.new) (take result bytes.now) }
 {
+    // `write_all` does not tell how many bytes went before it failed.
     let mut done: usize = 0;
     while done < bytes.len() {
         let n = to.write(&bytes[done..]).unwrap_or(0);

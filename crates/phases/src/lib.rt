@@ -49,7 +49,7 @@ pub fn is_requested(p: Phase) -> bool
     matches!(p, Phase::Requested(_))
 }
 
-// The number of a phase, for an image.
+// The number of a phase, for an image. A variant has its transfer, so there is no `as`.
 pub fn stage_of(p: Phase) -> u32
     ensures { result ≡ stage p }
 {

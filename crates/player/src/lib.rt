@@ -35,6 +35,7 @@ pub fn replay_parts(
     let mut s = st;
     let mut h = heads;
     let mut a = replayed::NO_ANSWER;
+    // By number, as `each_record` counts the records.
     for i in 0..n {
         let Some(c) = record::at(records, i) else {
             return replayed::stopped(s, h, i, a);

@@ -11,7 +11,7 @@ use number::Refusal;
 use queues::Five;
 use ring::Words;
 
-// Numbers as a caller gives them, as counts of words.
+// Numbers as a caller gives them, as counts of words. No `From`: both are the one type `Five`, of another crate.
 fn counts_of(s: Sizes) -> Counts
     ensures { result ≡ counts_of s }
 {

@@ -14,7 +14,8 @@ ghost use Rattle.stream_lines.specs.Given.{shown_with, shown_bank};
 use bank::{Bank, Heads, State};
 use number::Refusal;
 
-// The state and the heads after some records, whether a wrong one was met, and how many bytes of the text are filled.
+// The state and the heads after some records, whether a wrong one was met, and how many bytes of the text are filled: also
+// where one was met, so no `Option`.
 #[derive(Clone, Copy)]
 struct Lines {
     state: State,
@@ -50,6 +51,7 @@ fn show_parts(
 {
     let mut s = st;
     let mut h = heads;
+    // By number, as `each_record` counts the records.
     for i in 0..n {
         let Some(c) = record::at(records, i) else {
             return Lines {

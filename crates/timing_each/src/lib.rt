@@ -36,6 +36,7 @@ fn replay_records(b: Bank, store: &mut [u32], records: &[u8], n: usize) -> Repor
         number: 0,
     };
     let mut none = [0u32; 0];
+    // By number, as `each_record` counts the records.
     for i in 0..n {
         let Some(call) = record::at(records, i) else {
             return Report {

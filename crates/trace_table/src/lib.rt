@@ -46,7 +46,7 @@ pub struct Walked {
     pub end: u64,
 }
 
-// The starts of a table of `n` sections, one after another.
+// The starts of a table of `n` sections, one after another. By number: an entry is read as a look-up reads it.
 #[tactic(auto, unfolding(trace_model::specs::Format::starts_right, trace_model::specs::Format::records))]
 pub fn walk(file: &[u8], n: u32) -> Walked
     requires { (n ≡ sections file.now) × (n ≤ 64) × (6 + 8 * n ≤ length file.now) }

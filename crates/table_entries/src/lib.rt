@@ -17,9 +17,9 @@ fn put<T: Copy>(table: &mut [T], i: u32, v: T)
     }
 }
 
-#[tactic(auto, unfolding(effect::specs::Effects::tables_by))]
 // Tables one by one, here and in what calls it: a host lends them so, and where a struct of `&mut` was lent in their place,
 // what it left was not proved to be what its parts left.
+#[tactic(auto, unfolding(effect::specs::Effects::tables_by))]
 pub fn put_table(
     t: Table,
     flags: &mut [u8; 128],

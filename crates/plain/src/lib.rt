@@ -74,9 +74,9 @@ fn serve(b: PlainBank, store: &mut [u32], output: &mut [u32], call: Call) -> Pla
 {
     let st = b.state;
     let words = plain_words::look(st.caps, st.levels, store);
-    let e = plain_decide::decide(
+    let e = dispatch::decide(
         st,
-        words,
+        &words,
         &b.flags,
         &b.commands,
         &b.payloads,

@@ -10,9 +10,9 @@ ghost use Rattle.plain_model.specs.FitsArea.{AllFitAreas};
 ghost use Rattle.plain_words.specs.Fronts.{firsts_of, plain_fronts};
 
 use bank::Counts;
+use dispatch::Words;
 use plain_model::PlainArea;
-use queues::Five;
-use ring::Words;
+use queues::{Five, Queue};
 
 // Where the areas begin in the store: each where the one before it ends (`store.order`). The capacities are given one
 // by one: a proof about a sum need not look into a state.
@@ -32,7 +32,7 @@ fn in_a_row(cmd: u32, cmdr: u32, sdo: u32, sdi: u32) -> Five<usize>
     }
 }
 
-fn area(base: usize, cap: Words, level: Words) -> PlainArea
+fn area(base: usize, cap: ring::Words, level: ring::Words) -> PlainArea
     ensures { result ≡ plain_area base cap level }
 {
     PlainArea {
@@ -79,6 +79,26 @@ pub struct FirstWords {
     pub ibi: u32,
 }
 
+// A decision is told them by the queue's name.
+impl Words for FirstWords {
+    ghost show = { λ w f. w ≡ firsts_of f };
+
+    fn first(&self, q: Queue) -> u32 {
+        match q {
+            Queue::Cmd => self.cmd,
+            Queue::Cmdr => self.cmdr,
+            Queue::Sdo => self.sdo,
+            Queue::Sdi => self.sdi,
+            Queue::Ibi => self.ibi,
+        }
+    }
+
+    fn second(&self) -> u32 {
+        self.second
+    }
+}
+
+// All of them looked up, before a call is decided.
 pub fn look(caps: Counts, levels: Counts, store: &[u32]) -> FirstWords
     requires { AllFitAreas keep_all caps levels store.now }
     ensures { result ≡ firsts_of (plain_fronts caps levels store.now) }

@@ -1,19 +1,16 @@
 // What the rings of a bank show: where the area of each queue begins in the lent store (`store.order`), and the first
-// words of the queues. Of calls it knows only which register takes from which queue.
+// words of the queues. It knows no call.
 #![tactic(auto)]
 
 ghost use Rattle.std.specs.Prelude.{◌≡◌, ◌+◌, get_or};
 ghost use Rattle.queues.specs.Each.{of};
 ghost use Rattle.bank.specs.Queues.{queues_of};
 ghost use Rattle.bank.specs.Ready.{Ready};
-ghost use Rattle.model.specs.Registers.{row};
 ghost use Rattle.model.specs.Rings.{areas, words_in};
-ghost use Rattle.effect.specs.Seen.{taken_by};
-ghost use Rattle.rings.specs.Fronts.{base_of, fronts};
+ghost use Rattle.rings.specs.Fronts.{base_of};
 
 use bank::{Counts, Heads};
 use queues::Queue;
-use registers::Register;
 use ring::{Ring, Words};
 
 // The ring of a queue.
@@ -50,17 +47,4 @@ pub fn word(q: Queue, k: Counts, l: Counts, h: Heads, store: &[u32], i: u32) -> 
     ensures { result ≡ get_or (words_in (of q (areas (queues_of k l h))) store.now) i 0 }
 {
     ring::look(ring(q, k, l, h), base(q, k), store, i)
-}
-
-// The word that a read of a register takes (`take.read`), 0 where it takes none.
-pub fn taken_word(r: Register, k: Counts, l: Counts, h: Heads, store: &[u32]) -> u32
-    requires { Ready (queues_of k l h) store.now }
-    ensures { result ≡ taken_by (row r) (fronts (queues_of k l h) store.now) }
-{
-    match r {
-        Register::CmdrFifo => word(Queue::Cmdr, k, l, h, store, 0),
-        Register::SdiFifo => word(Queue::Sdi, k, l, h, store, 0),
-        Register::IbiFifo => word(Queue::Ibi, k, l, h, store, 0),
-        _ => 0,
-    }
 }

@@ -1,20 +1,20 @@
--- `plain_decide::decide`: refused with 18, or the event of an open burst.
+-- `dispatch::decide`: refused with 18, or the event of an open burst.
 use Rattle.std.proofs.Common.{◌&&◌, ap₂, sym, ◌∙◌}
 use Rattle.bank.specs.Bursts.{bursting}
 use Rattle.model.specs.View.{tables}
 use Rattle.effect.specs.Seen.{seen}
 use Rattle.calls.proofs.Tests.{misfits, in_burst}
-use Rattle.plain_decide.proofs.decide.Goals as goal
+use Rattle.dispatch.proofs.decide.Goals as goal
 
 pub returns-then-is_misfit : goal.returns-then-is_misfit
-returns-then-is_misfit c =
+returns-then-is_misfit g c =
     let a = c.args in
     λ o f w n.
     let t = tables a.flags.now a.commands.now a.payloads.now o in
     c.refuse.ensures t f ∙ misfits (seen a.st t f) a.call (sym c.is_misfit.ensures ∙ c.if-is_misfit.true)
 
 pub returns-then-is_bursting-is_event : goal.returns-then-is_bursting-is_event
-returns-then-is_bursting-is_event c =
+returns-then-is_bursting-is_event g c =
     let a = c.args in
     let event = (in_burst (bursting a.st.control) a.call (sym (ap₂ ◌&&◌ c.is_bursting.ensures c.is_event.ensures) ∙ c.if-is_bursting-is_event.true)).1 in
     λ o f w n. c.event.ensures o f n event (sym c.is_misfit.ensures ∙ c.if-is_misfit.false)

@@ -1,14 +1,14 @@
--- `plain_decide::read_at`: the register at the offset.
+-- `dispatch::read_at`: the register at the offset.
 use Rattle.std.proofs.Common.{ap, ◌∙◌}
 use Rattle.registers.specs.declared.Register.{Register}
 use Rattle.model.specs.View.{tables}
 use Rattle.model.specs.Registers.{row, read}
 use Rattle.effect.specs.Effects.{verdict}
 use Rattle.effect.specs.Seen.{seen}
-use Rattle.plain_decide.proofs.read_at.Goals as goal
+use Rattle.dispatch.proofs.read_at.Goals as goal
 
 pub returns : goal.returns
-returns c =
+returns g c =
     let a = c.args in
     λ o f w.
     let v = seen a.st (tables a.flags.now a.commands.now a.payloads.now o) f in

@@ -28,7 +28,7 @@ KNOW_NO_PLACE = {'table_entries', 'faults'}
 DAMAGES = (
     ('crates/plain_words/src/lib.rt', 'return store[a.base + i as usize];', 'return ring::look(r, a.base, store, i);'),
     ('crates/plain_moves/src/lib.rt', 'Op::Push(w) => push(store, a, w),', 'Op::Push(w) => ring_moves::apply(store, a, w),'),
-    ('crates/plain_decide/src/lib.rt', 'payload::send(st, words.sdo)', 'payload::send(st, rings::word(st, store))'),
+    ('crates/plain_words/src/lib.rt', 'cmdr: word(store, a.cmdr, 0),', 'cmdr: rings::word(store, a.cmdr, 0),'),
     ('crates/plain/src/lib.rt', 'settle(b, store, output, e)\n', 'settle::settle(b, store, output, e)\n'),
     ('crates/plain/src/lib.rt', '    serve(b, store, output, call)\n', '    controller::step(b, store, output, call)\n'),
 )

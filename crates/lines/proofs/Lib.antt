@@ -1,4 +1,3 @@
 pub mod Choices
 pub mod Cases
 pub mod Grammar
-pub mod Bytes

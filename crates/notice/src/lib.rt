@@ -68,10 +68,9 @@ pub fn line(words: &[u8], n: u64, out: &mut [u8]) -> usize
 {
     let mut digits = [0u8; 20];
     let k = io::decimal(n, &mut digits);
-    let newline = [b'\n'];
     let at = append(out, 0, words);
     let end = append(out, at, &digits[..k]);
-    append(out, end, &newline)
+    append(out, end, b"\n")
 }
 
 // Says the words and the number on standard error, and gives how many bytes were written: a layer, no interface. Where

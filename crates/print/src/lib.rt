@@ -19,8 +19,10 @@ fn digit(n: u32, base: u32, unit: u32) -> u8
 pub fn line(a: Answer) -> [u8; 12]
     ensures { result ≡ line_of a.value a.number }
 {
-    let v = a.value;
-    let n = a.number;
+    let Answer {
+        value: v,
+        number: n,
+    } = a;
     [
         digit(v, 16, 0x1000_0000),
         digit(v, 16, 0x0100_0000),

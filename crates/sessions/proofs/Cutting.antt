@@ -14,7 +14,7 @@ use Rattle.sessions.specs.declared.Ended.{Ended}
 use Rattle.lines.specs.Automaton.{unread, eat_of, call_read}
 use Rattle.sessions.specs.Session.{ran_of, ended_session, Session, session, line_end, fed_byte, session_fed}
 use Rattle.lines.proofs.Choices.{chosen, passed}
-use Rattle.lines.proofs.Bytes.{take_next}
+use Rattle.std.proofs.lemmas.List.{take_more}
 
 pub cut : (s : Session) (a b : List ℕ) → session_fed s (a ++ b) ≡ session_fed (session_fed s a) b
 unfolding session_fed
@@ -50,7 +50,7 @@ pieces l r a b =
 -- one byte more
 pub fed_next : (s : Session) (bytes : List ℕ) (i : ℕ) → i < length bytes → fed_byte (session_fed s (take i bytes)) (get_or bytes i 0) ≡ session_fed s (take (i + 1) bytes)
 unfolding session_fed
-fed_next s bytes i h = sym (ap (session_fed s) (take_next bytes i h) ∙ cut s (take i bytes) (get_or bytes i 0 ∷ []))
+fed_next s bytes i h = sym (ap (session_fed s) (take_more bytes i 0 h) ∙ cut s (take i bytes) (get_or bytes i 0 ∷ []))
 
 -- ── The loop of `feed` ───────────────────────────────────────────────────────────────────────────
 -- a byte of a line

@@ -5,10 +5,10 @@ ghost use Rattle.std.specs.Prelude.{◌≡◌, List, ℕ, length, get_or};
 ghost use Rattle.queues.specs.Each.{of};
 ghost use Rattle.bank.specs.Queues.{queues_of};
 ghost use Rattle.bank.specs.Ready.{Ready};
-ghost use Rattle.model.specs.View.{tables};
 ghost use Rattle.model.specs.Rings.{areas, words_in};
 ghost use Rattle.model.specs.Bursts.{decide};
 ghost use Rattle.answer.specs.Given.{view, Open};
+ghost use Rattle.tables.specs.Shown.{tables_seen};
 ghost use Rattle.effect.specs.Effects.{effect_of, verdict};
 ghost use Rattle.rings.specs.Fronts.{fronts};
 
@@ -17,6 +17,7 @@ use dispatch::Words;
 use effect::Effect;
 use model::Call;
 use queues::Queue;
+use tables::Tables;
 
 // The rings of a bank in the store that is lent.
 #[derive(Clone, Copy)]
@@ -50,18 +51,9 @@ impl Words for Lent<'_> {
 }
 
 // Any call.
-pub fn decide(
-    st: State,
-    h: Heads,
-    flags: &[u8; 128],
-    commands: &[u32; 16],
-    payloads: &[u32; 16],
-    store: &[u32],
-    len: usize,
-    call: Call,
-) -> Effect
-    requires { Open st h commands.now store.now }
-    ensures { (o : List ℕ) → length o ≡ len → (let t = tables flags.now commands.now payloads.now o in effect_of result t ≡ verdict (λ v. decide v call) (view st h t store.now)) }
+pub fn decide(st: State, h: Heads, t: Tables, store: &[u32], len: usize, call: Call) -> Effect
+    requires { Open st h t.commands.now store.now }
+    ensures { (o : List ℕ) → length o ≡ len → (let s = tables_seen t.entry o in effect_of result s ≡ verdict (λ v. decide v call) (view st h s store.now)) }
 {
     let words = Lent {
         caps: st.caps,
@@ -69,5 +61,5 @@ pub fn decide(
         heads: h,
         store,
     };
-    dispatch::decide(st, &words, flags, commands, payloads, len, call)
+    dispatch::decide(st, &words, t, len, call)
 }

@@ -12,6 +12,7 @@ ghost use Rattle.model.specs.Laws.{is_access};
 ghost use Rattle.model.specs.Registers.{row};
 ghost use Rattle.model.specs.Calls.{start, interrupt};
 ghost use Rattle.model.specs.Bursts.{misfit, decide};
+ghost use Rattle.tables.specs.Shown.{tables_seen};
 ghost use Rattle.effect.specs.Effects.{effect_of, verdict};
 ghost use Rattle.effect.specs.Seen.{Fronts, seen, taken_by};
 
@@ -21,6 +22,7 @@ use model::Call;
 use number::Refusal;
 use queues::Queue;
 use registers::Register;
+use tables::Tables;
 
 // The words that calls look at, as an engine has them: looked up before, or where a call asks.
 pub trait Words {
@@ -38,47 +40,31 @@ pub trait Words {
 
 // Any call: 18 first (`answer.range`), tested here, once; an event in an open burst is the burst's (`burst.events`), and
 // goes a way of its own, so that the code of the others need not hold where a burst stands.
-pub fn decide<W: Words>(
-    st: State,
-    words: &W,
-    flags: &[u8; 128],
-    commands: &[u32; 16],
-    payloads: &[u32; 16],
-    len: usize,
-    call: Call,
-) -> Effect
-    requires { open_ok st.control st.regs st.phase commands.now ≡ true }
-    ensures { (o : List ℕ) (f : Fronts) → W.show words.now f → length o ≡ len → (let t = tables flags.now commands.now payloads.now o in effect_of result t ≡ verdict (λ v. decide v call) (seen st t f)) }
+pub fn decide<W: Words>(st: State, words: &W, t: Tables, len: usize, call: Call) -> Effect
+    requires { open_ok st.control st.regs st.phase t.commands.now ≡ true }
+    ensures { (o : List ℕ) (f : Fronts) → W.show words.now f → length o ≡ len → (let s = tables_seen t.entry o in effect_of result s ≡ verdict (λ v. decide v call) (seen st s f)) }
 {
     if calls::is_misfit(call) {
         return effect::refuse(st, Refusal::OutOfRange);
     }
     if burst_commands::is_bursting(st.control) & calls::is_event(call) {
-        return offload::event(st, flags, commands, payloads, len, call);
+        return offload::event(st, t, len, call);
     }
-    outside_burst(st, words, flags, commands, payloads, len, call)
+    outside_burst(st, words, t, len, call)
 }
 
 // A call outside a burst: an access, or an event while no burst is open. Each decision stands in a crate of its own name.
-fn outside_burst<W: Words>(
-    st: State,
-    words: &W,
-    flags: &[u8; 128],
-    commands: &[u32; 16],
-    payloads: &[u32; 16],
-    len: usize,
-    call: Call,
-) -> Effect
-    requires { (open_ok st.control st.regs st.phase commands.now ≡ true) × (misfit call ≡ false) × ((bursting st.control && not (is_access call)) ≡ false) }
-    ensures { (o : List ℕ) (f : Fronts) → W.show words.now f → length o ≡ len → (let t = tables flags.now commands.now payloads.now o in effect_of result t ≡ verdict (λ v. decide v call) (seen st t f)) }
+fn outside_burst<W: Words>(st: State, words: &W, t: Tables, len: usize, call: Call) -> Effect
+    requires { (open_ok st.control st.regs st.phase t.commands.now ≡ true) × (misfit call ≡ false) × ((bursting st.control && not (is_access call)) ≡ false) }
+    ensures { (o : List ℕ) (f : Fronts) → W.show words.now f → length o ≡ len → (let s = tables_seen t.entry o in effect_of result s ≡ verdict (λ v. decide v call) (seen st s f)) }
 {
     match call {
         // `map.reads`, `take.read`
-        Call::Read(offset) => read_at(st, words, flags, commands, payloads, offset),
+        Call::Read(offset) => read_at(st, words, t, offset),
         // `access.order`, `map.bits`
         Call::Write(offset, v) => write::write(registers::register_at(offset), st, v),
         // `start.tests`, `start.opens`
-        Call::Start => start(st, words.first(Queue::Cmd), words.second(), flags),
+        Call::Start => start(st, words.first(Queue::Cmd), words.second(), t.flags),
         // `send.tests`, `send.byte`
         Call::Send => payload::send(st, words.first(Queue::Sdo)),
         // `receive.tests`, `receive.byte`
@@ -86,30 +72,23 @@ fn outside_burst<W: Words>(
         // `finish.tests`, `finish.receipt`, `finish.removal`
         Call::Finish(code) => finish::finish(st, code),
         // `interrupt.tests`, `interrupt.entry`
-        Call::Interrupt(address, byte) => interrupt(st, flags, address, byte),
+        Call::Interrupt(address, byte) => interrupt(st, t.flags, address, byte),
         // `request.tests`, `request.opens`
         Call::Request(v, w) => addresses::request(st, v, w),
         // `take.tests`, `take.address`
         Call::Take => addresses::take_address(st, words.first(Queue::Sdo)),
         // `trigger.tests`, `trigger.opens`
-        Call::Trigger => trigger::trigger(st, flags, commands, len),
+        Call::Trigger => trigger::trigger(st, t.flags, t.commands, len),
     }
 }
 
 // A read: the register at the offset (`map.offsets`) shows what it has, or gives the word that it takes.
-fn read_at<W: Words>(
-    st: State,
-    words: &W,
-    flags: &[u8; 128],
-    commands: &[u32; 16],
-    payloads: &[u32; 16],
-    offset: u16,
-) -> Effect
-    ensures { (o : List ℕ) (f : Fronts) → W.show words.now f → (let t = tables flags.now commands.now payloads.now o in effect_of result t ≡ verdict (λ v. decide v (Read offset)) (seen st t f)) }
+fn read_at<W: Words>(st: State, words: &W, t: Tables, offset: u16) -> Effect
+    ensures { (o : List ℕ) (f : Fronts) → W.show words.now f → (let s = tables_seen t.entry o in effect_of result s ≡ verdict (λ v. decide v (Read offset)) (seen st s f)) }
 {
     let r = registers::register_at(offset);
     let w = taken_word(r, words);
-    read::read(r, st, w, flags, commands, payloads)
+    read::read(r, st, w, t)
 }
 
 // The word that a read of a register takes (`take.read`), 0 where it takes none.

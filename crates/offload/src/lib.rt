@@ -11,9 +11,9 @@ ghost use Rattle.model.specs.View.{Tables};
 ghost use Rattle.model.specs.Decision.{unchanged, ◌with_number◌};
 ghost use Rattle.model.specs.Laws.{is_access};
 ghost use Rattle.model.specs.Bursts.{misfit, decide};
+ghost use Rattle.tables.specs.Shown.{tables_seen};
 ghost use Rattle.effect.specs.Effects.{effect_of, verdict};
 ghost use Rattle.effect.specs.Seen.{Fronts, seen};
-ghost use Rattle.offload.specs.Lent.{tables_lent};
 
 use bank::State;
 use effect::Effect;
@@ -33,26 +33,19 @@ pub fn bar(st: State, commands: &[u32; 16], len: usize, why: Refusal) -> Effect
 }
 
 // Any event that passes 18. What is given for an access is not promised: none comes here.
-pub fn event(
-    st: State,
-    flags: &[u8; 128],
-    commands: &[u32; 16],
-    payloads: &[u32; 16],
-    len: usize,
-    call: Call,
-) -> Effect
-    requires { (bursting st.control ≡ true) × (open_ok st.control st.regs st.phase commands.now ≡ true) }
-    ensures { (o : List ℕ) (f : Fronts) → length o ≡ len → is_access call ≡ false → misfit call ≡ false → (let t = tables_lent flags commands payloads o in effect_of result t ≡ verdict (λ v. decide v call) (seen st t f)) }
+pub fn event(st: State, t: tables::Tables, len: usize, call: Call) -> Effect
+    requires { (bursting st.control ≡ true) × (open_ok st.control st.regs st.phase t.commands.now ≡ true) }
+    ensures { (o : List ℕ) (f : Fronts) → length o ≡ len → is_access call ≡ false → misfit call ≡ false → (let s = tables_seen t.entry o in effect_of result s ≡ verdict (λ v. decide v call) (seen st s f)) }
 {
     match call {
         Call::Read(_) | Call::Write(_, _) => effect::refuse(st, Refusal::NoRoom),
-        Call::Start => bar(st, commands, len, Refusal::TransferOpen),
-        Call::Send => burst_bytes::send(st, commands, payloads, len),
-        Call::Receive(byte) => burst_bytes::receive(st, commands, len, byte),
-        Call::Finish(code) => burst_finish::finish(st, flags, commands, len, code),
-        Call::Interrupt(_, _) => bar(st, commands, len, Refusal::TransferOpen),
-        Call::Request(_, _) => bar(st, commands, len, Refusal::NotThisKind),
-        Call::Take => bar(st, commands, len, Refusal::NotThisKind),
-        Call::Trigger => bar(st, commands, len, Refusal::TransferOpen),
+        Call::Start => bar(st, t.commands, len, Refusal::TransferOpen),
+        Call::Send => burst_bytes::send(st, t.commands, t.payloads, len),
+        Call::Receive(byte) => burst_bytes::receive(st, t.commands, len, byte),
+        Call::Finish(code) => burst_finish::finish(st, t.flags, t.commands, len, code),
+        Call::Interrupt(_, _) => bar(st, t.commands, len, Refusal::TransferOpen),
+        Call::Request(_, _) => bar(st, t.commands, len, Refusal::NotThisKind),
+        Call::Take => bar(st, t.commands, len, Refusal::NotThisKind),
+        Call::Trigger => bar(st, t.commands, len, Refusal::TransferOpen),
     }
 }

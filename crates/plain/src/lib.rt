@@ -21,6 +21,7 @@ use model::Call;
 use number::Refusal;
 use plain_model::{PlainBank, PlainOut};
 use queues::Five;
+use tables::Tables;
 
 // Any call.
 pub fn step(b: PlainBank, store: &mut [u32], output: &mut [u32], call: Call) -> PlainOut
@@ -74,15 +75,12 @@ fn serve(b: PlainBank, store: &mut [u32], output: &mut [u32], call: Call) -> Pla
 {
     let st = b.state;
     let words = plain_words::look(st.caps, st.levels, store);
-    let e = dispatch::decide(
-        st,
-        &words,
-        &b.flags,
-        &b.commands,
-        &b.payloads,
-        output.len(),
-        call,
-    );
+    let t = Tables {
+        flags: &b.flags,
+        commands: &b.commands,
+        payloads: &b.payloads,
+    };
+    let e = dispatch::decide(st, &words, t, output.len(), call);
     settle(b, store, output, e)
 }
 

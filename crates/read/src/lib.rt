@@ -3,8 +3,8 @@
 #![tactic(auto)]
 
 ghost use Rattle.std.specs.Prelude.{◌≡◌, List, ℕ};
-ghost use Rattle.model.specs.View.{tables};
 ghost use Rattle.model.specs.Registers.{row, read};
+ghost use Rattle.tables.specs.Shown.{tables_seen};
 ghost use Rattle.effect.specs.Effects.{effect_of, verdict};
 ghost use Rattle.effect.specs.Seen.{Fronts, seen, taken_by};
 
@@ -14,18 +14,17 @@ use number::Refusal;
 use queues::Queue;
 use read_rows::show;
 use registers::Register;
+use tables::Tables;
 
 // A read of a register: 4 where there is none (`map.offsets`); one that is only written gives 0 (`map.write-only`).
-pub fn read(
-    r: Register,
-    st: State,
-    word: u32,
-    flags: &[u8; 128],
-    commands: &[u32; 16],
-    payloads: &[u32; 16],
-) -> Effect
-    ensures { (o : List ℕ) (f : Fronts) → word ≡ taken_by (row r) f → (let t = tables flags.now commands.now payloads.now o in effect_of result t ≡ verdict (read (row r)) (seen st t f)) }
+pub fn read(r: Register, st: State, word: u32, t: Tables) -> Effect
+    ensures { (o : List ℕ) (f : Fronts) → word ≡ taken_by (row r) f → (let v = tables_seen t.entry o in effect_of result v ≡ verdict (read (row r)) (seen st v f)) }
 {
+    let Tables {
+        flags,
+        commands,
+        payloads,
+    } = t;
     let k = st.caps;
     let l = st.levels;
     let g = st.regs;

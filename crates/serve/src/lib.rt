@@ -16,6 +16,7 @@ use answer::Next;
 use bank::{Heads, State};
 use model::Call;
 use number::Refusal;
+use tables::Tables;
 
 // A call on a bank and a store that passed the two tests.
 fn serve(
@@ -31,7 +32,12 @@ fn serve(
     requires { Open st h commands.old store.old }
     ensures { let m = lent flags commands payloads store output in step_of result (left flags commands payloads store output) ≡ decided st h m.tables m.store (decide (view st h m.tables m.store) call) }
 {
-    let e = decide::decide(st, h, flags, commands, payloads, store, output.len(), call);
+    let t = Tables {
+        flags,
+        commands,
+        payloads,
+    };
+    let e = decide::decide(st, h, t, store, output.len(), call);
     settle::settle(st, h, flags, commands, payloads, store, output, e)
 }
 

@@ -1,7 +1,7 @@
 -- `dispatch::decide`: refused with 18, or the event of an open burst.
 use Rattle.std.proofs.Common.{◌&&◌, ap₂, sym, ◌∙◌}
 use Rattle.bank.specs.Bursts.{bursting}
-use Rattle.model.specs.View.{tables}
+use Rattle.tables.specs.Shown.{tables_seen}
 use Rattle.effect.specs.Seen.{seen}
 use Rattle.calls.proofs.Tests.{misfits, in_burst}
 use Rattle.dispatch.proofs.decide.Goals as goal
@@ -10,7 +10,7 @@ pub returns-then-is_misfit : goal.returns-then-is_misfit
 returns-then-is_misfit g c =
     let a = c.args in
     λ o f w n.
-    let t = tables a.flags.now a.commands.now a.payloads.now o in
+    let t = tables_seen a.t o in
     c.refuse.ensures t f ∙ misfits (seen a.st t f) a.call (sym c.is_misfit.ensures ∙ c.if-is_misfit.true)
 
 pub returns-then-is_bursting-is_event : goal.returns-then-is_bursting-is_event

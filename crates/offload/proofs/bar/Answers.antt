@@ -1,5 +1,5 @@
 -- `offload::bar`: 13, then 5, then what is given.
-use Rattle.std.proofs.Common.{◌≡◌, ◌∙◌, sym, ap, refl, ℕ, cond}
+use Rattle.std.proofs.Common.{◌∙◌, sym, ap, ℕ, cond}
 use Rattle.number.specs.Names as number
 use Rattle.number.specs.Refusals.{number_of, told_or}
 use Rattle.model.specs.Decision.{unchanged, ◌with_number◌}

@@ -8,7 +8,7 @@ pub returns-in_default : goal.returns-in_default
 returns-in_default c =
     let l = c.loop-i in
     let a = c.args in (
-      wrong_told a.n l.i a.records.now l.a l.bank l.store l.none _ l.invariant.left c.at.result c.loop-i-test.true c.at.ensures c.in_default.is,
+      rw c.from.ensures (wrong_told a.n l.i a.records.now l.a l.bank l.store l.none _ l.invariant.left c.at.result c.loop-i-test.true c.at.ensures c.in_default.is),
       wrong_left a.n l.i a.records.now l.a l.bank l.store l.none _ l.invariant.left c.at.result c.loop-i-test.true c.at.ensures c.in_default.is,
     )
 

@@ -40,7 +40,7 @@ fn on_parts(
 ) -> Reached
     ensures { reached_with result (left_without flags commands payloads store) ≡ replay_of file.now i limit (controller_of s h (lent_without flags commands payloads store)) }
 {
-    let records = match trace::section(file, i) {
+    let records = match trace::part(file, i) {
         Ok(records) => records,
         Err(why) => return replayed::reach(s, h, u32::from(why), 0, replayed::NO_ANSWER),
     };

@@ -15,7 +15,7 @@ use replayed::Replayed;
 pub fn replay(b: Bank, store: &mut [u32], file: &[u8], i: u32, limit: usize) -> Replayed
     ensures { replayed_out result store.new ≡ replay_of file.now i limit (controller b store.old []) }
 {
-    let records = match trace::section(file, i) {
+    let records = match trace::part(file, i) {
         Ok(records) => records,
         Err(why) => return replayed::refused(b, why),
     };

@@ -2,10 +2,8 @@
 use Prim.Native.Nat.{ℕ, zero, suc, ◌+◌, ◌-◌, ◌*◌, ◌<◌, ◌≤◌}
 use native.Mathlib.Omega.{arith}
 use mathlib.Core.Path.{◌≡◌, ap, sym, ◌∙◌}
-use mathlib.Core.List.{List, []}
+use mathlib.Core.List.{List}
 use lib.ListN.{length}
-use Rattle.number.specs.declared.Refusal.{Refusal}
-use Rattle.number.specs.Refusals.{number_of, told}
 use Rattle.bank.specs.declared.Answer.{Answer}
 use Rattle.bank.specs.declared.Bank.{Bank}
 use Rattle.model.specs.declared.Call.{Call}
@@ -14,11 +12,8 @@ use Rattle.model.specs.Rings.{Controller, rings}
 use Rattle.answer.specs.declared.Out.{Out}
 use Rattle.answer.specs.Given.{controller, given_out}
 use Rattle.letters.specs.Named.{Parsed}
-use Rattle.std.specs.Prelude.{Some, None, Result, Ok, Err, IfOk}
-use Rattle.std.specs.Result.{result_unwrap_or}
-use Rattle.std.specs.Borrow.{Bor}
+use Rattle.std.specs.Prelude.{Some, None}
 use Rattle.trace_model.specs.Format.{look_number, section}
-use Rattle.trace_model.proofs.Refused.{not_zero}
 use Rattle.trace_model.proofs.Sections.{refused}
 use Rattle.record_model.specs.Record.{record_at, each_record, whole_records}
 use Rattle.record_model.proofs.Each.{goes, stops, ends}
@@ -78,9 +73,3 @@ same file bytes l n (suc x) e s w h =
     let none : length bytes ≡ 0 = ap length (s ∙ sym (refused file 0 (suc x) e wrong-file).0) in
     let z : n ≡ 0 = omega (arith, h, none) in
     ap (λ (m : ℕ). unnumbered (each_record did wrong m bytes 0 (replay_begun 0 l))) z ∙ ap unnumbered (refuses file 0 (length file) l (suc x) e wrong-file)
-
--- what a look-up gives, or no byte
-pub handed : (file : List ℕ) (found : Result (Bor (List ℕ)) Refusal) (none bytes : Bor (List ℕ)) → none.now ≡ [] → bytes ≡ result_unwrap_or found none → told found ≡ look_number file 0
-    → IfOk found (λ p. p.now ≡ section file 0) → bytes.now ≡ section file 0
-handed file (Ok p) none bytes z e n s = ap (λ (b : Bor (List ℕ)). b.now) e ∙ s
-handed file (Err why) none bytes z e n s = ap (λ (b : Bor (List ℕ)). b.now) e ∙ z ∙ (refused file 0 (number_of why) n (not_zero why)).0

@@ -61,7 +61,7 @@ fn replay_records(b: Bank, store: &mut [u32], records: &[u8], n: usize) -> Repor
 pub extern "C" fn replay_each(cap: u32, store: &mut [u32], file: &[u8], last: &mut [u32]) -> u32
     ensures { timed result store.new last.new ≡ timed_of cap store.old file.now last.old }
 {
-    let records = trace::section(file, 0).unwrap_or(&[]);
+    let records = trace::section(file, 0);
     // All of them: no section has more records than its file has bytes.
     let n = record::whole(file.len(), records);
     let told = replay_records(timing::fresh(cap), store, records, n);

@@ -26,13 +26,34 @@ pub fn look_up(file: &[u8], i: u32) -> Result<Range<usize>, Refusal>
     Ok(start as usize..end as usize)
 }
 
-// The records of section i, as a part of the file (`trace.section`).
-pub fn section(file: &[u8], i: u32) -> Result<&[u8], Refusal>
+// The records of section i, as a part of the file, or why it is not there (`trace.section`, `trace.refused`).
+pub fn part(file: &[u8], i: u32) -> Result<&[u8], Refusal>
     ensures number { told result ≡ look_number file.now i }
     ensures result_value { IfOk result (λ r. r.now ≡ section file.now i) }
     ensures uncopied { IfOk result (λ r. (r.ref_ptr.0 ≡ file.entry.ref_ptr.0) × (r.ref_ptr.1 ≡ section_start file.now i + file.entry.ref_ptr.1)) }
 {
     Ok(&file[look_up(file, i)?])
+}
+
+// The same without the reason: no records where the section is not there.
+pub fn section(file: &[u8], i: u32) -> &[u8]
+    ensures result_value { result.now ≡ section file.now i }
+    ensures uncopied { (result.ref_ptr.0 ≡ file.entry.ref_ptr.0) × (result.ref_ptr.1 ≡ section_start file.now i + file.entry.ref_ptr.1) }
+{
+    match part(file, i) {
+        Ok(records) => records,
+        Err(_) => &file[..0],
+    }
+}
+
+// The first byte of section i; 0 where it is not there.
+pub fn section_start(file: &[u8], i: u32) -> u32
+    ensures { result ≡ section_start file.now i }
+{
+    match look_up(file, i) {
+        Ok(r) => r.start as u32,
+        Err(_) => 0,
+    }
 }
 
 // What a table of `n` sections tells that is there as a whole.

@@ -4,15 +4,14 @@ use Rattle.bank.specs.declared.Bank.{Bank}
 use Rattle.answer.specs.Given.{controller}
 use Rattle.playback_model.specs.Replay.{Replay, replay_of}
 use Rattle.timing.specs.Timing.{kept_in, timed}
-use Rattle.timing_each.proofs.Records.{unnumbered, same, handed}
+use Rattle.timing_each.proofs.Records.{unnumbered, same}
 use Rattle.timing_each.proofs.replay_each.Goals as goal
 
 pub returns : goal.returns
 returns c =
     let a = c.args in
     let t = c.replay_records-told.ensures in
-    let records = handed a.file.now c.section.result _ _ refl c.unwrap_or-records.ensures c.section.ensures.number c.section.ensures.result_value in
-    let e = same a.file.now _ (controller c.fresh.result a.store.now []) _ _ c.section.ensures.number records c.whole-n.ensures.0 c.whole-n.ensures.1
+    let e = same a.file.now _ (controller c.fresh.result a.store.now []) _ _ refl c.section-records.ensures.result_value c.whole-n.ensures.0 c.whole-n.ensures.1
     ∙ ap (λ (b : Bank). unnumbered (replay_of a.file.now 0 (length a.file.now) (controller b a.store.now []))) c.fresh.ensures in
     ap (timed _ _) c.keep.ensures
     ∙ (λ i. timed ((t.0 i).count % 2 ^ 32) (t.1 i) (kept_in a.last.now (t.0 i).answer))

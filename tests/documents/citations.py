@@ -7,8 +7,8 @@ From the repository's root. In README.md and docs/*.md every must-fail edit `cra
 definition `File: name`, theorem `crate: name`, test `name.py`, path, and point of docs/DECISIONS.md is there. Every rule
 that these documents, a comment in crates/ or tests/, or any other source cite by name stands in docs/RULES.md: a name with
 a dot whose first part begins a rule, in documents and other sources between backticks. The tables of rules are left to
-rules.py, and in docs/DESIGN-PASS.md, which sets what went beside what came, names in backticks are free. Prints a line for
-each that is not so. Exit status 0 only if there is none.
+rules.py, and in docs/DESIGN-PASS.md and docs/LOOK-BACK.md, which set what went beside what came, names in backticks are
+free. Prints a line for each that is not so. Exit status 0 only if there is none.
 """
 
 import os
@@ -21,7 +21,7 @@ sys.path.insert(0, str(pathlib.Path(__file__).resolve().parents[2]))
 from tests.documents.declared import (EDITS, TABLE, missing_definitions, missing_functions, missing_theorems, plain, rows,
                                       rules)
 
-OLD_AND_NEW = pathlib.Path('docs/DESIGN-PASS.md')
+OLD_AND_NEW = pathlib.Path('docs/DESIGN-PASS.md'), pathlib.Path('docs/LOOK-BACK.md')
 DOCUMENTS = [pathlib.Path('README.md'), *sorted(pathlib.Path('docs').glob('*.md'))]
 COMMENTED = {'.antt': '--', '.rt': '//', '.edit': '#', '.py': '#', '.sh': '#'}
 WRITTEN = ('crates/*/specs/**/*.antt', 'crates/*/src/**/*.rt', 'crates/*/proofs/**/*.antt', 'crates/*/must-fail/*.edit',
@@ -83,7 +83,7 @@ def wrong_in_document(document: pathlib.Path, known: set[str]):
     for number, line in plain(document.read_text()):
         if number in ruled:
             continue
-        for token in () if document == OLD_AND_NEW else re.findall(r'`([^`]+)`', line):
+        for token in () if document in OLD_AND_NEW else re.findall(r'`([^`]+)`', line):
             yield from ((number, text) for text in missing(token))
         yield from ((number, text) for text in unruled(between_backticks(line), known))
         yield from ((number, f'no point {point}') for point in POINT.findall(line) if point not in POINTS)

@@ -85,7 +85,7 @@ def mapped(text: str) -> Facts:
     body = once(MAP, text, r'^named =\n((?:[ \t]+\S.*\n)+)')
     found: Facts = {}
     for part in (part.strip() for part in body.split('∷')):
-        if entry := re.fullmatch(r'(0x[0-9a-f]+) is (\w+)(?: (\w+))?', part):
+        if entry := re.fullmatch(r'(0x[0-9a-f]+) is (\w+)(?: (\d+))?', part):
             variant = f'{entry[2]}({entry[3]})' if entry[3] else entry[2]
             name = variant if variant not in found else f'a second {variant}'
             found[name] = entry[1]
@@ -101,7 +101,7 @@ def mapped(text: str) -> Facts:
 def definitions(table: Table, read: Read) -> Iterator[str]:
     yield from compare(MAP, mapped(bare(read(MAP))), {one.variant: place(one) for one in table.registers})
     text = bare(read(ROWS))
-    rows = {name: row for name, row in re.findall(r'^row \(?(\w+)(?: [iq]\))? = (.+)$', text, re.M) if row != 'absent'}
+    rows = {name: row for name, row in re.findall(r'^row \(?(\w+)(?: i\))? = (.+)$', text, re.M) if row != 'absent'}
     shown = dict(re.findall(r'^shown \(?(\w+)(?: [iq]\))? s = (.+)$', text, re.M))
     found: Facts = {}
     for name, row in rows.items():
@@ -117,15 +117,15 @@ def definitions(table: Table, read: Read) -> Iterator[str]:
 def code(table: Table, read: Read) -> Iterator[str]:
     text = read(CODE)
     variants = once(CODE, text, r'^pub enum Register \{\n((?:    .*\n)+)\}')
-    found = re.findall(r'^    (\w+)(?:\((?:u32|Queue)\))?,$', variants, re.M)
+    found = re.findall(r'^    (\w+)(?:\(u32\))?,$', variants, re.M)
     yield from compare(f'{CODE}, enum Register', {name: '' for name in found if name != 'Unmapped'},
                        {kind_of(one): '' for one in table.registers})
-    arms: Facts = {name.replace('Queue::', ''): offset for offset, name in re.findall(r'^        (0x\w+) => Register::(\w+(?:\(Queue::\w+\))?),$', text, re.M)}
+    arms: Facts = {name: offset for offset, name in re.findall(r'^        (0x\w+) => Register::(\w+(?:\(\d+\))?),$', text, re.M)}
     memories = re.findall(r'^        (0x\w+)\.\.=(0x\w+) => \{\n.*\n +Register::(\w+)\(', text, re.M)
     arms.update({name: f'{first} to {last}' for first, last, name in memories})
     yield from compare(f'{CODE}, register_at', arms, {one.variant: place(one) for one in table.registers})
     for path in ARMS:
-        found = re.findall(r'^        Register::(\w+)(?:\([iq]\))? =>', read(path), re.M)
+        found = re.findall(r'^        Register::(\w+)(?:\(i\))? =>', read(path), re.M)
         yield from compare(path, {name: '' for name in found if name != 'Unmapped'},
                            {kind_of(one): '' for one in table.registers})
 

@@ -4,14 +4,14 @@
     header.py
 
 Each prototype is a function of libthymewax.a and each of its functions has a prototype, with the
-parameters that crates/thymewax and crates/thymewax_replay give it, by name and type. Version, words
-of an image and lengths of tables are those of the definitions. Register offsets are those of
-docs/registers.svd, names of answers and their numbers those of docs/ANSWERS.md, all of them. A
-program that calls every inline function beside the archive's own, with all warnings as errors,
-compiles as C and C++ by each compiler that is there and finds both the same. The example and the
-programs of docs/C.md print what they should, the example also under valgrind. Damaged headers must
-be refused. The archive lies in target/staticlib or in the folder THYMEWAX_LIB_DIR. Exit status 0
-only if all of it holds, 1 if not.
+parameters that crates/thymewax and crates/thymewax_replay give it, by name and type. The archive
+needs no name from outside. Version, words of an image and lengths of tables are those of the
+definitions. Register offsets are those of docs/registers.svd, names of answers and their numbers
+those of docs/ANSWERS.md, all of them. A program that calls every inline function beside the
+archive's own, with all warnings as errors, compiles as C and C++ by each compiler that is there and
+finds both the same. The example and the programs of docs/C.md print what they should, the example
+also under valgrind. Damaged headers must be refused. The archive lies in target/staticlib or in the
+folder THYMEWAX_LIB_DIR. Exit status 0 only if all of it holds, 1 if not.
 """
 
 import os
@@ -119,13 +119,23 @@ def exported(source):
     return found
 
 
-def symbols():
-    """The functions of the archive with the model's prefix."""
-    status, text = run(['nm', '-g', '--defined-only', ARCHIVE])
+def listed(*options):
+    """The lines of nm on the archive, each as its words."""
+    status, text = run(['nm', *options, ARCHIVE])
     if status:
         sys.exit('header: nm cannot read %s' % ARCHIVE)
-    return {words[2] for words in map(str.split, text.splitlines())
+    return [line.split() for line in text.splitlines()]
+
+
+def symbols():
+    """The functions of the archive with the model's prefix."""
+    return {words[2] for words in listed('-g', '--defined-only')
             if len(words) == 3 and words[1] == 'T' and words[2].startswith('thymewax_')}
+
+
+def needed():
+    """The names that the archive needs from outside."""
+    return sorted({words[1] for words in listed('-u') if len(words) == 2})
 
 
 def names(header, enum, prefix):
@@ -255,7 +265,7 @@ def main():
                  if shutil.which(compiler) for standard in standards]
     of_one = [pair for pair in compilers if pair in (('gcc', 'c99'), ('g++', 'c++11'))]
     text = read(HEADER)
-    found = faults(text, compilers)
+    found = ['the archive needs %s from outside' % name for name in needed()] + faults(text, compilers)
     if len(of_one) != 2:
         found.append('gcc and g++ are needed')
     with tempfile.TemporaryDirectory() as folder:

@@ -10,8 +10,7 @@ where it names a struct that a ring is made of, and *passes an operation* where 
 or a struct or another name of such.
 
 - No division stands in `ring`, but for the round-up by four, nor in a function that has a head, counts words or passes an
-  operation, nor in what is called by a function with a whole ring. A function that no more than counts words may cut a
-  written number to its 16 bits, by a remainder by 0x10000: no set-up has a ring of so many places.
+  operation, nor in what is called by a function with a whole ring.
 - Outside `ring`, a function that has a head computes nothing: it copies, compares and hands on.
 - Outside `ring`, no slice that a ring lies in is indexed.
 
@@ -32,7 +31,6 @@ from tests.sources.places_damages import DAMAGES
 HOME = 'ring'
 ROUND_UP = 'ring::words_for'
 BY_FOUR = re.compile(r'[/%]\s*4\b')
-BITS = re.compile(r'%\s*0x10000\b')
 DIVISION = re.compile(r'[/%]|>>|\b(?:\w+_)?(?:div|rem)(?:_\w+)?\s*\(')
 # Not products: they find no place. `&` before a number is a mask, so a remainder.
 COMPUTED = re.compile(r'\+|-(?!>)|\^|<<|&\s*\d|\bstd::num::|\b(?:wrapping|checked|saturating|overflowing)_\w+')
@@ -146,9 +144,8 @@ class Code:
         passing = {one: 'passes an operation' for one in self.outside if re.search(self.operation, one.types())}
         counting = {one: 'counts words' for one in self.outside if re.search(self.count, one.text)}
         for one, why in {**passing, **counting, **self.beneath(whole), **self.having}.items():
-            text = BITS.sub(lambda found: blanks(found[0]), one.text) if why == counting.get(one) else one.text
             yield from ((one.path, one.line_at(found.start()), f'{one} {why} and divides')
-                        for found in DIVISION.finditer(text))
+                        for found in DIVISION.finditer(one.text))
         for one, why in self.having.items():
             yield from ((one.path, one.line_at(found.start()), f'{one} {why} and computes')
                         for found in COMPUTED.finditer(one.text))

@@ -32,8 +32,9 @@ fn ask(c: Control, b: bool) -> Control
 fn request_tests(st: State) -> Result<(), Refusal>
     ensures { (t : Tables) (f : Fronts) (v w : ℕ) → told result ≡ number (request (seen st t f) v w) }
 {
+    let p = st.phase;
     effect::while_open(st)?;
-    if !phases::is_assigning(st.phase) | phases::is_requested(st.phase) {
+    if !phases::is_assigning(p) | phases::is_requested(p) {
         return Err(Refusal::NotThisKind);
     }
     if bank::room(st.caps.sdi.0, st.levels.sdi.0) < 2 {
@@ -46,10 +47,11 @@ fn request_tests(st: State) -> Result<(), Refusal>
 pub fn request(st: State, x: u32, w: u32) -> Effect
     ensures { (t : Tables) (f : Fronts) → effect_of result t ≡ verdict (λ v. request v x w) (seen st t f) }
 {
+    let p = st.phase;
     if let Err(why) = request_tests(st) {
-        return effect::refuse(st, why);
+        return effect::refused(st, why);
     }
-    let phase = Phase::Requested(phases::transfer_of(st.phase));
+    let phase = Phase::Requested(phases::transfer_of(p));
     let control = ask(st.control, st.levels.sdo.0 == 0);
     effect::done(
         State {
@@ -68,8 +70,9 @@ pub fn request(st: State, x: u32, w: u32) -> Effect
 fn take_tests(st: State) -> Result<(), Refusal>
     ensures { (t : Tables) (f : Fronts) → told result ≡ number (take_address (seen st t f)) }
 {
+    let p = st.phase;
     effect::while_open(st)?;
-    if !phases::is_requested(st.phase) {
+    if !phases::is_requested(p) {
         return Err(Refusal::NotThisKind);
     }
     if st.levels.sdo.0 == 0 {
@@ -111,11 +114,12 @@ fn parity_number(odd: bool) -> u32
 pub fn take_address(st: State, word: u32) -> Effect
     ensures { (t : Tables) (f : Fronts) → word ≡ f.sdo.first → effect_of result t ≡ verdict take_address (seen st t f) }
 {
+    let p = st.phase;
     if let Err(why) = take_tests(st) {
-        return effect::refuse(st, why);
+        return effect::refused(st, why);
     }
     let odd = is_odd(word);
-    let phase = replied(odd, phases::transfer_of(st.phase));
+    let phase = replied(odd, phases::transfer_of(p));
     let control = ask(st.control, !odd & (st.levels.sdo.0 <= 1));
     effect::done(
         State {

@@ -3,11 +3,9 @@
 #![tactic(auto)]
 
 ghost use Rattle.std.specs.Prelude.{◌≡◌};
-ghost use Rattle.number.specs.Refusals.{number_of};
 ghost use Rattle.answer.specs.Given.{refused_next};
 
 use bank::{Answer, Bank, Heads, State};
-use number::Refusal;
 
 // The state and the heads after a call, and its answer. The tables stay where they are.
 #[derive(Clone, Copy)]
@@ -40,8 +38,12 @@ pub fn done(st: State, h: Heads, a: Answer) -> Next
 
 // A refusal (`answer.refusal`): the state as it was, and the value 0. It is put together by `done` too: where two ways
 // of making a state meet, the state stays in memory.
-pub fn refuse(st: State, h: Heads, why: Refusal) -> Next
-    ensures { result ≡ refused_next st h (number_of why) }
+pub fn refuse(st: State, h: Heads, n: u32) -> Next
+    ensures { result ≡ refused_next st h n }
 {
-    done(st, h, Answer::refused(why))
+    let answer = Answer {
+        value: 0,
+        number: n,
+    };
+    done(st, h, answer)
 }

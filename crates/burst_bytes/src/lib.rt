@@ -35,8 +35,9 @@ fn send_tests(st: State, commands: &[u32; 16], len: usize) -> Result<(), Refusal
     requires { bursting st.control ≡ true }
     ensures { (a p o : List ℕ) (f : Fronts) → length o ≡ len → (let v = seen st (tables a commands.now p o) f in told result ≡ number (output_first v (burst_send v))) }
 {
+    let p = st.phase;
     trigger::output_tests(st.regs, commands, len)?;
-    payload_bytes::byte_tests(st, phases::is_writing(st.phase))
+    payload_bytes::byte_tests(st, phases::is_writing(p))
 }
 
 // A byte sent: of the data word, as many places from its top as bytes have moved.
@@ -44,10 +45,11 @@ pub fn send(st: State, commands: &[u32; 16], payloads: &[u32; 16], len: usize) -
     requires { (bursting st.control ≡ true) × (open_ok st.control st.regs st.phase commands.now ≡ true) }
     ensures { (a o : List ℕ) (f : Fronts) → length o ≡ len → (let t = tables a commands.now payloads.now o in effect_of result t ≡ verdict (λ v. output_first v (burst_send v)) (seen st t f)) }
 {
+    let p = st.phase;
     if let Err(why) = send_tests(st, commands, len) {
-        return effect::refuse(st, why);
+        return effect::refused(st, why);
     }
-    let t = phases::transfer_of(st.phase);
+    let t = phases::transfer_of(p);
     let w = data_word(st.control, commands, payloads);
     let byte = w / payload_bytes::weight(t.moved.0) % 0x100;
     let phase = Phase::Writing(payload_bytes::advance(t, 0));
@@ -60,8 +62,9 @@ fn receive_tests(st: State, commands: &[u32; 16], len: usize) -> Result<(), Refu
     requires { bursting st.control ≡ true }
     ensures { (a p o : List ℕ) (f : Fronts) (byte : ℕ) → length o ≡ len → (let v = seen st (tables a commands.now p o) f in told result ≡ number (output_first v (burst_receive v byte))) }
 {
+    let p = st.phase;
     trigger::output_tests(st.regs, commands, len)?;
-    payload_bytes::byte_tests(st, phases::is_reading(st.phase))
+    payload_bytes::byte_tests(st, phases::is_reading(p))
 }
 
 // A byte received: it stays in the part word until the finish.
@@ -69,10 +72,11 @@ pub fn receive(st: State, commands: &[u32; 16], len: usize, byte: u8) -> Effect
     requires { (bursting st.control ≡ true) × (open_ok st.control st.regs st.phase commands.now ≡ true) }
     ensures { (a p o : List ℕ) (f : Fronts) → length o ≡ len → (let t = tables a commands.now p o in effect_of result t ≡ verdict (λ v. output_first v (burst_receive v byte)) (seen st t f)) }
 {
+    let p = st.phase;
     if let Err(why) = receive_tests(st, commands, len) {
-        return effect::refuse(st, why);
+        return effect::refused(st, why);
     }
-    let t = phases::transfer_of(st.phase);
+    let t = phases::transfer_of(p);
     let w = payload_bytes::gathered(t.part, t.moved.0, byte);
     let phase = Phase::Reading(payload_bytes::advance(t, w));
     effect::done(State { phase, ..st }, 0, 0, None)

@@ -25,9 +25,10 @@ fn finish_tests(st: State, commands: &[u32; 16], len: usize, code: u8) -> Result
     requires { bursting st.control ≡ true }
     ensures { (a p o : List ℕ) (f : Fronts) → length o ≡ len → (let v = seen st (tables a commands.now p o) f in told result ≡ number (output_first v (burst_finish v code))) }
 {
+    let p = st.phase;
     trigger::output_tests(st.regs, commands, len)?;
     effect::while_open(st)?;
-    if !endings::is_allowed(st.phase, code) {
+    if !endings::is_allowed(p, code) {
         return Err(Refusal::EndingNotAllowed);
     }
     Ok(())
@@ -58,10 +59,11 @@ pub fn finish(st: State, flags: &[u8; 128], commands: &[u32; 16], len: usize, co
     requires { (bursting st.control ≡ true) × (open_ok st.control st.regs st.phase commands.now ≡ true) }
     ensures { (p o : List ℕ) (f : Fronts) → length o ≡ len → (let t = tables flags.now commands.now p o in effect_of result t ≡ verdict (λ v. output_first v (burst_finish v code)) (seen st t f)) }
 {
+    let p = st.phase;
     if let Err(why) = finish_tests(st, commands, len, code) {
-        return effect::refuse(st, why);
+        return effect::refused(st, why);
     }
-    let t = phases::transfer_of(st.phase);
+    let t = phases::transfer_of(p);
     let k = st.control.burst as usize;
     let passed = k - 1;
     let place = burst_commands::reads_in(commands, passed) as u32;
@@ -69,7 +71,7 @@ pub fn finish(st: State, flags: &[u8; 128], commands: &[u32; 16], len: usize, co
     let w = commands[k];
     let phase = next_phase(last, flags, w);
     let control = trigger::burst_at(st.control, after(last, st.control.burst));
-    let word = effect::table_if(phases::is_reading(st.phase), Table::Output(place, t.part));
+    let word = effect::table_if(phases::is_reading(p), Table::Output(place, t.part));
     effect::done_with(
         State {
             control,

@@ -87,7 +87,7 @@ module _ (l : Controller) (o : List ℕ) where
   shows_same Ops = tt
   shows_same IbiConfig = tt
   shows_same DevChar = tt
-  shows_same (Watermark q) = tt
+  shows_same (Watermark i) = tt
   shows_same (OffloadCmd i) = tt
   shows_same (OffloadSdo i) = tt
   shows_same Unmapped = tt

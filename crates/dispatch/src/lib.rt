@@ -45,7 +45,7 @@ pub fn decide<W: Words>(st: State, words: &W, t: Tables, len: usize, call: Call)
     ensures { (o : List ℕ) (f : Fronts) → W.show words.now f → length o ≡ len → (let s = tables_seen t.entry o in effect_of result s ≡ verdict (λ v. decide v call) (seen st s f)) }
 {
     if calls::is_misfit(call) {
-        return effect::refuse(st, Refusal::OutOfRange);
+        return effect::refused(st, Refusal::OutOfRange);
     }
     if burst_commands::is_bursting(st.control) & calls::is_event(call) {
         return offload::event(st, t, len, call);

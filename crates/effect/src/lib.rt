@@ -68,7 +68,8 @@ fn tested(held: bool, fails: bool, why: Refusal) -> Result<(), Refusal>
 pub fn while_open(st: State) -> Result<(), Refusal>
     ensures { (n : ℕ) → told_or n result ≡ cond st.control.held number.held_in_reset (cond (idle st.phase) number.no_transfer n) }
 {
-    let idle = phases::is_idle(st.phase);
+    let p = st.phase;
+    let idle = phases::is_idle(p);
     tested(st.control.held, idle, Refusal::NoTransfer)
 }
 
@@ -76,7 +77,8 @@ pub fn while_open(st: State) -> Result<(), Refusal>
 pub fn while_idle(st: State) -> Result<(), Refusal>
     ensures { (n : ℕ) → told_or n result ≡ cond st.control.held number.held_in_reset (cond (not (idle st.phase)) number.transfer_open n) }
 {
-    let busy = !phases::is_idle(st.phase);
+    let p = st.phase;
+    let busy = !phases::is_idle(p);
     tested(st.control.held, busy, Refusal::TransferOpen)
 }
 
@@ -87,24 +89,73 @@ pub fn while_idle(st: State) -> Result<(), Refusal>
 pub fn clear_all() -> Ops
     ensures { ops_of result ≡ every clear }
 {
-    Some(Five::every(Op::Clear))
+    Some(Five {
+        cmd: Op::Clear,
+        cmdr: Op::Clear,
+        sdo: Op::Clear,
+        sdi: Op::Clear,
+        ibi: Op::Clear,
+    })
 }
 
-// One operation on one queue, where `comes` holds; else none.
+// One operation on one queue, where `comes` holds; else none. Put together in one piece: an operation that is copied from
+// five to five is packed into one word and unpacked again.
+#[tactic(auto, unfolding(crate::specs::Ops::five_of))]
 pub fn on(q: Queue, comes: bool, o: Op) -> Ops
     ensures { ops_of result ≡ only q (cond comes (op_of o) keep) }
 {
-    if comes {
-        Some(Five::every(Op::Keep).with(q, o))
-    } else {
-        None
+    if !comes {
+        return None;
+    }
+    match q {
+        Queue::Cmd => Some(Five {
+            cmd: o,
+            cmdr: Op::Keep,
+            sdo: Op::Keep,
+            sdi: Op::Keep,
+            ibi: Op::Keep,
+        }),
+        Queue::Cmdr => Some(Five {
+            cmd: Op::Keep,
+            cmdr: o,
+            sdo: Op::Keep,
+            sdi: Op::Keep,
+            ibi: Op::Keep,
+        }),
+        Queue::Sdo => Some(Five {
+            cmd: Op::Keep,
+            cmdr: Op::Keep,
+            sdo: o,
+            sdi: Op::Keep,
+            ibi: Op::Keep,
+        }),
+        Queue::Sdi => Some(Five {
+            cmd: Op::Keep,
+            cmdr: Op::Keep,
+            sdo: Op::Keep,
+            sdi: o,
+            ibi: Op::Keep,
+        }),
+        Queue::Ibi => Some(Five {
+            cmd: Op::Keep,
+            cmdr: Op::Keep,
+            sdo: Op::Keep,
+            sdi: Op::Keep,
+            ibi: o,
+        }),
     }
 }
 
-fn op_if(comes: bool, o: Op) -> Op
-    ensures { op_of result ≡ cond comes (op_of o) keep }
+fn push_if(comes: bool, w: u32) -> Op
+    ensures { op_of result ≡ cond comes (push w) keep }
 {
-    if comes { o } else { Op::Keep }
+    if comes { Op::Push(w) } else { Op::Keep }
+}
+
+fn take_if(comes: bool, n: u32) -> Op
+    ensures { op_of result ≡ cond comes (take n) keep }
+{
+    if comes { Op::Take(n) } else { Op::Keep }
 }
 
 // A receipt to CMDR; where `removes` holds, `n` words out of SDO (`finish.removal`); where `comes` holds, the part word
@@ -116,8 +167,8 @@ pub fn receipt_and(receipt: u32, removes: bool, n: u32, comes: bool, w: u32) -> 
     Some(Five {
         cmd: Op::Keep,
         cmdr: Op::Push(receipt),
-        sdo: op_if(removes, Op::Take(n)),
-        sdi: op_if(comes, Op::Push(w)),
+        sdo: take_if(removes, n),
+        sdi: push_if(comes, w),
         ibi: Op::Keep,
     })
 }
@@ -152,9 +203,16 @@ pub fn done(st: State, value: u32, number: u32, ops: Ops) -> Effect
     done_with(st, value, number, ops, Table::Same)
 }
 
-// A refusal, which changes nothing (`answer.refusal`).
-pub fn refuse(st: State, why: Refusal) -> Effect
+// A refusal with a number, which changes nothing (`answer.refusal`).
+pub fn refuse(st: State, n: u32) -> Effect
+    ensures { (t : Tables) (f : Fronts) → effect_of result t ≡ (unchanged (seen st t f) with_number n) }
+{
+    done(st, 0, n, None)
+}
+
+// The refusal that a test gave.
+pub fn refused(st: State, why: Refusal) -> Effect
     ensures { (t : Tables) (f : Fronts) → effect_of result t ≡ (unchanged (seen st t f) with_number number_of why) }
 {
-    done(st, 0, u32::from(why), None)
+    refuse(st, u32::from(why))
 }

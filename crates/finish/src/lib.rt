@@ -45,13 +45,14 @@ fn removed_words(t: Transfer, level: Words) -> u32
 fn finish_tests(st: State, code: u8) -> Result<(), Refusal>
     ensures { (t : Tables) (f : Fronts) → told result ≡ number (finish (seen st t f) code) }
 {
+    let p = st.phase;
     effect::while_open(st)?;
-    if !endings::is_allowed(st.phase, code) {
+    if !endings::is_allowed(p, code) {
         return Err(Refusal::EndingNotAllowed);
     }
     let k = st.caps;
     let l = st.levels;
-    if (k.cmdr.0 <= l.cmdr.0) | (is_padded(st.phase) & (k.sdi.0 <= l.sdi.0)) {
+    if (k.cmdr.0 <= l.cmdr.0) | (is_padded(p) & (k.sdi.0 <= l.sdi.0)) {
         return Err(Refusal::NoRoom);
     }
     Ok(())
@@ -83,14 +84,15 @@ pub fn finish(st: State, code: u8) -> Effect
     requires { (phase_ok st.phase ≡ true) × (code ≤ 15) }
     ensures { (t : Tables) (f : Fronts) → effect_of result t ≡ verdict (λ v. finish v code) (seen st t f) }
 {
+    let p = st.phase;
     if let Err(why) = finish_tests(st, code) {
-        return effect::refuse(st, why);
+        return effect::refused(st, why);
     }
-    let t = phases::transfer_of(st.phase);
+    let t = phases::transfer_of(p);
     let r = receipt(code, t.moved.0, st.control.sync);
     let n = removed_words(t, st.levels.sdo);
-    let removes = does_remove(st.phase, code);
-    let pads = is_padded(st.phase);
+    let removes = does_remove(p, code);
+    let pads = is_padded(p);
     let o = effect::receipt_and(r, removes, n, pads, t.part);
     let phase = Phase::Idle;
     let control = counted(st.control);

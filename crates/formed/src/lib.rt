@@ -35,5 +35,8 @@ pub fn parts_formed(s: State, h: Heads, flags: &[u8; 128], commands: &[u32; 16])
 pub fn well_formed(b: Bank) -> bool
     ensures { result ≡ well_formed b }
 {
-    parts_formed(b.state, b.heads, &b.flags, &b.commands)
+    // Copies of the two tables: a bank whose parts are lent is kept whole in memory, and copied whole for each call.
+    let flags = b.flags;
+    let commands = b.commands;
+    parts_formed(b.state, b.heads, &flags, &commands)
 }

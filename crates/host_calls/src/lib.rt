@@ -96,10 +96,10 @@ pub fn step(
     let s = image_fields::state_in(image);
     let h = image_fields::heads_in(image);
     if !formed::parts_formed(s, h, flags, commands) {
-        return host_parts::refused(Refusal::NotWellFormed);
+        return host_parts::refused(u32::from(Refusal::NotWellFormed));
     }
     match call_of(letter, offset, first, second) {
         Some(c) => make(s, h, image, flags, commands, payloads, store, output, c),
-        None => host_parts::refused(Refusal::WrongRecord),
+        None => host_parts::refused(u32::from(Refusal::WrongRecord)),
     }
 }

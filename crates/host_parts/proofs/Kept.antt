@@ -17,5 +17,5 @@ pub said_by_parts : (k : Kept) (s : State) (h : Heads) → s ≡ state_in k.imag
 unfolding bank_in
 said_by_parts k s h e f = λ i. record { state = e i; heads = f i; flags = k.flags; commands = k.commands; payloads = k.payloads }
 
-pub refuses : (r n : ℕ) (k : Kept) (st o : List ℕ) (h : Hosted) → r ≡ packed_of (record { value = 0; number = n }) → refusal n k st o ≡ h → gave r (loan k st o) ≡ packed_step h
-refuses r n k st o h e f = ap (λ (x : ℕ). gave x (loan k st o)) e ∙ ap packed_step f
+pub refuses : (r n m : ℕ) (k : Kept) (st o : List ℕ) (h : Hosted) → r ≡ packed_of (record { value = 0; number = n }) → n ≡ m → refusal m k st o ≡ h → gave r (loan k st o) ≡ packed_step h
+refuses r n m k st o h e g f = ap (λ (x : ℕ). gave x (loan k st o)) e ∙ ap packed_step (ap (λ (x : ℕ). refusal x k st o) g ∙ f)

@@ -3,7 +3,6 @@
 #![tactic(auto)]
 
 ghost use Rattle.std.specs.Prelude.{◌≡◌, set};
-ghost use Rattle.number.specs.Refusals.{number_of};
 ghost use Rattle.host_model.specs.Host.{triggers, packed_of, told_in, placed_in};
 
 use bank::Answer;
@@ -17,13 +16,10 @@ pub fn packed(a: Answer) -> u64
     u64::from(a.value) + 0x1_0000_0000 * u64::from(a.number)
 }
 
-pub fn refused(why: Refusal) -> u64
-    ensures { result ≡ packed_of (record { value = 0; number = number_of why }) }
+pub fn refused(number: u32) -> u64
+    ensures { result ≡ packed_of (record { value = 0; number = number }) }
 {
-    packed(Answer {
-        value: 0,
-        number: u32::from(why),
-    })
+    packed(Answer { value: 0, number })
 }
 
 // Whether numbers are the trigger's.

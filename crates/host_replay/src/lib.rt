@@ -13,9 +13,9 @@ use bank::{Heads, State};
 use image_model::{Image, SIZE};
 use replayed::Reached;
 
-// The words of an image, where a state has them.
-fn said(image: &[u32]) -> Option<Image>
-    ensures { MatchOption result ((k : Kept) → k.image ≡ image.now → is_kept k ≡ false) (λ ws. (length image.now ≡ size) × (ws ≡ image.now) × (encoded image.now ≡ true)) }
+// The words of an image where they lie, where a state has them.
+fn said(image: &[u32]) -> Option<&Image>
+    ensures { MatchOption result ((k : Kept) → k.image ≡ image.now → is_kept k ≡ false) (λ ws. (length image.now ≡ size) × (ws.now ≡ image.now) × (encoded image.now ≡ true)) }
 {
     let Some(words) = image.as_array::<SIZE>() else {
         return None;
@@ -23,7 +23,7 @@ fn said(image: &[u32]) -> Option<Image>
     if !image::is_encoded(words) {
         return None;
     }
-    Some(*words)
+    Some(words)
 }
 
 // Replay of a section on a bank by its parts, with the tables where they lie and an empty output.
@@ -69,14 +69,14 @@ pub fn replay(
     ensures { gave result (left_all image flags commands payloads store told) ≡ replay_on file.now i limit (lent_all image flags commands payloads store told) }
 {
     let said = said(image);
-    let mut words = said.unwrap_or([0; SIZE]);
-    let s = image_fields::state_in(&words);
-    let h = image_fields::heads_in(&words);
+    let words = said.unwrap_or(&[0; SIZE]);
+    let s = image_fields::state_in(words);
+    let h = image_fields::heads_in(words);
     let y = on_parts(s, h, flags, commands, payloads, store, file, i, limit);
     if said.is_none() {
         return host_parts::tell(y.told, told);
     }
-    image_words::encode(y.state, y.heads, &mut words);
-    image.copy_from_slice(&words);
+    let words = image.as_mut_array::<SIZE>().unwrap();
+    image_words::encode(y.state, y.heads, words);
     host_parts::tell(y.told, told)
 }

@@ -60,7 +60,7 @@ pub fn interrupt(st: State, f: u8, address: u8, byte: u8) -> Effect
     ensures { (t : Tables) (x : Fronts) → f ≡ slice_index t.flags address → effect_of result t ≡ verdict (λ v. interrupt v address byte) (seen st t x) }
 {
     if let Err(why) = interrupt_tests(st, f) {
-        return effect::refuse(st, why);
+        return effect::refused(st, why);
     }
     let data = bank::select(bank::bit(2, f as u32), byte, 0);
     let w = entry(address, data, st.control.ibisync);

@@ -58,6 +58,10 @@ sources m s =
 abbrev pub status : View → ℕ
 status s = word_if (empty s.queues.cmdr) 1 + word_if (empty s.queues.ibi) 2 + word_if (empty s.queues.sdi) 4
 
+-- the queue of a watermark register, in the order of `store.order`
+abbrev pub queue_at : ℕ → Queue
+queue_at i = cond (eqb i 0) Cmd (cond (eqb i 1) Cmdr (cond (eqb i 2) Sdo (cond (eqb i 3) Sdi Ibi)))
+
 -- the row of each register. Those that show a number: `version.value`, `id.value`, `source.read`, `room.read`, `level.read`, `status.read`.
 abbrev pub row : Register → Row
 row Version = shows (λ s. 0x00000100)
@@ -81,7 +85,7 @@ row FifoStatus = shows status
 row Ops = holds ops
 row IbiConfig = holds ibi_config
 row DevChar = holds dev_char
-row (Watermark q) = holds (watermark q)
+row (Watermark i) = holds (watermark (queue_at i))
 row (OffloadCmd i) = holds (offload_cmd i)
 row (OffloadSdo i) = holds (offload_sdo i)
 row Unmapped = absent

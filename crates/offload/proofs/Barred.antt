@@ -3,9 +3,6 @@ use Prim.Native.Nat.{ℕ}
 use mathlib.Core.Path.{◌≡◌, refl, sym, ◌∙◌}
 use mathlib.Core.Bool.{Bool, true, false, cond, true≢false}
 use mathlib.Core.Option.{some}
-use Rattle.number.specs.declared.Refusal.{Refusal}
-use Rattle.number.specs.declared.Refusal.TheVariants.{HeldInReset}
-use Rattle.number.specs.Refusals.{number_of}
 use Rattle.bank.specs.Phases.{idle, assigning, requested}
 use Rattle.bank.specs.declared.Phase.{Phase}
 use Rattle.model.specs.View.{View}
@@ -14,10 +11,6 @@ use Rattle.model.specs.Calls.{start, interrupt, request, take_address}
 use Rattle.model.specs.Bursts.{short_in_burst, trigger}
 use Rattle.model.proofs.Phases.{requested_assigns}
 use Rattle.effect.specs.Effects.{verdict_by, verdict}
-
-pub held_first : (b : Bool) (why : Refusal) → number_of (cond b HeldInReset why) ≡ cond b 5 (number_of why)
-held_first true why = refl
-held_first false why = refl
 
 -- 13, then 5, then the number of a test that holds
 told_by : (s : View) (a b : Bool) (n : ℕ) (e : Effect) → (unchanged s with_number cond a 13 (cond b 5 n)) ≡ verdict_by (cond a (some 13) (cond b (some 5) (some n))) s e

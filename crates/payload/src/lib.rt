@@ -20,8 +20,9 @@ use queues::Queue;
 fn send_tests(st: State) -> Result<(), Refusal>
     ensures { (t : Tables) (f : Fronts) → told result ≡ number (send (seen st t f)) }
 {
-    payload_bytes::byte_tests(st, phases::is_writing(st.phase))?;
-    let t = phases::transfer_of(st.phase);
+    let p = st.phase;
+    payload_bytes::byte_tests(st, phases::is_writing(p))?;
+    let t = phases::transfer_of(p);
     if (t.moved.0 % 4 == 0) & (st.levels.sdo.0 == 0) {
         return Err(Refusal::SdoEmpty);
     }
@@ -32,10 +33,11 @@ fn send_tests(st: State) -> Result<(), Refusal>
 pub fn send(st: State, word: u32) -> Effect
     ensures { (t : Tables) (f : Fronts) → word ≡ f.sdo.first → effect_of result t ≡ verdict send (seen st t f) }
 {
+    let p = st.phase;
     if let Err(why) = send_tests(st) {
-        return effect::refuse(st, why);
+        return effect::refused(st, why);
     }
-    let t = phases::transfer_of(st.phase);
+    let t = phases::transfer_of(p);
     let fresh = t.moved.0 % 4 == 0;
     let w = bank::select(fresh, word, t.part);
     let next = payload_bytes::advance(t, w % 0x1000000 * 0x100);
@@ -53,8 +55,9 @@ pub fn send(st: State, word: u32) -> Effect
 fn receive_tests(st: State) -> Result<(), Refusal>
     ensures { (t : Tables) (f : Fronts) (byte : ℕ) → told result ≡ number (receive (seen st t f) byte) }
 {
-    payload_bytes::byte_tests(st, phases::is_reading(st.phase))?;
-    let t = phases::transfer_of(st.phase);
+    let p = st.phase;
+    payload_bytes::byte_tests(st, phases::is_reading(p))?;
+    let t = phases::transfer_of(p);
     if (t.moved.0 % 4 == 3) & (st.caps.sdi.0 <= st.levels.sdi.0) {
         return Err(Refusal::NoRoom);
     }
@@ -66,10 +69,11 @@ pub fn receive(st: State, byte: u8) -> Effect
     requires { phase_ok st.phase ≡ true }
     ensures { (t : Tables) (f : Fronts) → effect_of result t ≡ verdict (λ v. receive v byte) (seen st t f) }
 {
+    let p = st.phase;
     if let Err(why) = receive_tests(st) {
-        return effect::refuse(st, why);
+        return effect::refused(st, why);
     }
-    let t = phases::transfer_of(st.phase);
+    let t = phases::transfer_of(p);
     let fills = t.moved.0 % 4 == 3;
     let w = payload_bytes::gathered(t.part, t.moved.0, byte);
     let next = payload_bytes::advance(t, bank::select(fills, 0, w));

@@ -16,25 +16,25 @@ pub fn advance(t: Transfer, w: u32) -> Transfer
     requires { t.moved.0 < t.length.0 }
     ensures { result ≡ advanced t w }
 {
-    Transfer {
-        moved: Bytes(t.moved.0 + 1),
-        part: w,
-        ..t
-    }
+    let mut next = t;
+    next.moved = Bytes(t.moved.0 + 1);
+    next.part = w;
+    next
 }
 
 // The tests of a byte that moves the way of the open transfer where `apt` holds: 5, 7, 20, 10, 11.
 pub fn byte_tests(st: State, apt: bool) -> Result<(), Refusal>
     ensures { (last : ℕ) → told_or last result ≡ byte_number st.control st.phase apt last }
 {
+    let p = st.phase;
     effect::while_open(st)?;
-    if phases::is_unattached(st.phase) {
+    if phases::is_unattached(p) {
         return Err(Refusal::NotAttached);
     }
     if !apt {
         return Err(Refusal::NotThisKind);
     }
-    let t = phases::transfer_of(st.phase);
+    let t = phases::transfer_of(p);
     if t.length.0 <= t.moved.0 {
         return Err(Refusal::LengthReached);
     }

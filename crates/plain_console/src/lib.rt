@@ -3,6 +3,12 @@
 #![tactic(auto)]
 
 ghost use Rattle.std.specs.Prelude.{◌≡◌};
+ghost use Rattle.bank.specs.SetUp.{set_up};
+ghost use Rattle.model.specs.Engine.{step};
+ghost use Rattle.plain_model.specs.Plain.{plain};
+ghost use Rattle.plain_model.specs.PlainLaws.{headless};
+ghost use Rattle.plain.specs.Given.{plain_lent};
+ghost use Rattle.trial_lines.specs.Engines.{with_lent, answered};
 ghost use Rattle.plain_console.specs.Console.{fresh_console};
 
 use bank::{Answer, Counts, Sizes};
@@ -17,6 +23,12 @@ pub struct Plain {
 }
 
 impl Engine for Plain {
+    ghost caps_of = { λ e. e.bank.state.caps };
+
+    ghost fresh = { λ caps marks id. let s = set_up caps marks id in answered s.answer (record { bank = headless s.bank }) };
+
+    ghost stepped = { λ l call. let r = step plain (plain_lent l.engine.bank l.store l.output) call in answered r.answer (with_lent (record { bank = r.next.bank }) r.next.store r.next.output) };
+
     fn caps(&self) -> Counts {
         self.bank.state.caps
     }

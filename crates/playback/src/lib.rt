@@ -17,7 +17,7 @@ pub fn replay(b: Bank, store: &mut [u32], file: &[u8], i: u32, limit: usize) -> 
 {
     let records = match trace::part(file, i) {
         Ok(records) => records,
-        Err(why) => return replayed::refused(b, why),
+        Err(why) => return replayed::refused(b, u32::from(why)),
     };
     player::play(b, store, &mut [], records, limit)
 }

@@ -61,20 +61,28 @@ pub fn play(
 {
     let n = record::whole(limit, records);
     let fault = faults::fault(b, store.len());
-    let mut bank = b;
+    // Each table by itself: together they are zeroed by a function of the C library.
+    let mut flags = b.flags;
+    let mut commands = b.commands;
+    let mut payloads = b.payloads;
     let y = replay_parts(
         b.state,
         b.heads,
-        &mut bank.flags,
-        &mut bank.commands,
-        &mut bank.payloads,
+        &mut flags,
+        &mut commands,
+        &mut payloads,
         store,
         output,
         fault,
         records,
         n,
     );
-    bank.state = y.state;
-    bank.heads = y.heads;
+    let bank = Bank {
+        state: y.state,
+        heads: y.heads,
+        flags,
+        commands,
+        payloads,
+    };
     Replayed { bank, told: y.told }
 }

@@ -20,6 +20,7 @@ use tables::Tables;
 pub fn read(r: Register, st: State, word: u32, t: Tables) -> Effect
     ensures { (o : List ℕ) (f : Fronts) → word ≡ taken_by (row r) f → (let v = tables_seen t.entry o in effect_of result v ≡ verdict (read (row r)) (seen st v f)) }
 {
+    let p = st.phase;
     let Tables {
         flags,
         commands,
@@ -47,15 +48,15 @@ pub fn read(r: Register, st: State, word: u32, t: Tables) -> Effect
         Register::SdiFifo => read_rows::take(Queue::Sdi, st, word),
         Register::IbiFifo => read_rows::take(Queue::Ibi, st, word),
         Register::FifoStatus => show(st, shown::status_word(l.cmdr.0, l.ibi.0, l.sdi.0)),
-        Register::Ops => show(st, shown::ops_word(phases::is_idle(st.phase), g.ops)),
+        Register::Ops => show(st, shown::ops_word(phases::is_idle(p), g.ops)),
         Register::IbiConfig => show(st, 0),
         Register::DevChar => show(
             st,
             shown::device_word(g.selected, bank::entry_at(flags, g.selected as usize, 0)),
         ),
-        Register::Watermark(q) => show(st, g.marks.of(q).0),
+        Register::Watermark(i) => show(st, watermarks::count_at(g.marks, i)),
         Register::OffloadCmd(i) => show(st, bank::entry_at(commands, i as usize, 0)),
         Register::OffloadSdo(i) => show(st, bank::entry_at(payloads, i as usize, 0)),
-        Register::Unmapped => effect::refuse(st, Refusal::NoRegister),
+        Register::Unmapped => effect::refused(st, Refusal::NoRegister),
     }
 }

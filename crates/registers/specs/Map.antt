@@ -1,6 +1,5 @@
 -- `map.offsets`: the registers with an offset of their own, and the two offload memories. 01, 'Register map', and 02 §6 for the watermarks.
 use Rattle.std.specs.Prelude.{ℕ, ◌+◌, ◌-◌, ◌/◌, ◌%◌, Bool, cond, ◌&&◌, List, [], ◌∷◌, leb, eqb}
-use Rattle.queues.specs.declared.Queue.TheVariants.{Cmd, Cmdr, Sdo, Sdi, Ibi}
 use Rattle.registers.specs.declared.Register.{Register}
 use Rattle.registers.specs.declared.Register.TheVariants.{Version, Id, Scratch, Enable, IrqMask, IrqPending, IrqSource, CmdRoom, CmdrLevel, SdoRoom, SdiLevel, IbiLevel, CmdFifo, CmdrFifo, SdoFifo, SdiFifo, IbiFifo, FifoStatus, Ops, IbiConfig, DevChar, Watermark, OffloadCmd, OffloadSdo, Unmapped}
 
@@ -23,7 +22,7 @@ named =
     ∷ 0x100 is Ops
     ∷ 0x140 is IbiConfig
     ∷ 0x180 is DevChar
-    ∷ 0x200 is Watermark Cmd ∷ 0x204 is Watermark Cmdr ∷ 0x208 is Watermark Sdo ∷ 0x20c is Watermark Sdi ∷ 0x210 is Watermark Ibi
+    ∷ 0x200 is Watermark 0 ∷ 0x204 is Watermark 1 ∷ 0x208 is Watermark 2 ∷ 0x20c is Watermark 3 ∷ 0x210 is Watermark 4
     ∷ []
 
 -- the offset of one of sixteen words from base on

@@ -5,10 +5,8 @@
 ghost use Rattle.std.specs.Prelude.{◌≡◌};
 ghost use Rattle.registers.specs.Map.{register_at};
 
-use queues::Queue;
-
-// The registers, by 001's names. An offload register has its place in its memory, 0 to 15; a watermark its queue
-// (`watermark.keeps`).
+// The registers, by 001's names. An offload register has its place in its memory, 0 to 15; a watermark the number of its
+// queue, 0 to 4 (`watermark.keeps`).
 #[derive(Clone, Copy)]
 pub enum Register {
     Version,
@@ -32,7 +30,7 @@ pub enum Register {
     Ops,
     IbiConfig,
     DevChar,
-    Watermark(Queue),
+    Watermark(u32),
     OffloadCmd(u32),
     OffloadSdo(u32),
     // Any other offset.
@@ -66,11 +64,11 @@ pub fn register_at(offset: u16) -> Register
         0x100 => Register::Ops,
         0x140 => Register::IbiConfig,
         0x180 => Register::DevChar,
-        0x200 => Register::Watermark(Queue::Cmd),
-        0x204 => Register::Watermark(Queue::Cmdr),
-        0x208 => Register::Watermark(Queue::Sdo),
-        0x20c => Register::Watermark(Queue::Sdi),
-        0x210 => Register::Watermark(Queue::Ibi),
+        0x200 => Register::Watermark(0),
+        0x204 => Register::Watermark(1),
+        0x208 => Register::Watermark(2),
+        0x20c => Register::Watermark(3),
+        0x210 => Register::Watermark(4),
         0x2c0..=0x2fc => {
             if offset % 4 == 0 {
                 Register::OffloadCmd(u32::from((offset - 0x2c0) / 4))

@@ -5,7 +5,6 @@
 ghost use Rattle.std.specs.Prelude.{◌≡◌, List, [], ℕ};
 ghost use Rattle.model.specs.View.{Tables};
 ghost use Rattle.answer.specs.Given.{bank_with, controller};
-ghost use Rattle.number.specs.Refusals.{number_of};
 ghost use Rattle.playback_model.specs.Replay.{telling, replay_begun, wrong};
 ghost use Rattle.replayed.specs.Given.{replay_reached, replayed_out};
 
@@ -59,12 +58,12 @@ pub fn stopped(state: State, heads: Heads, count: usize, answer: Answer) -> Reac
     Reached { state, heads, told }
 }
 
-// A replay that is refused as a whole, by its look-up: no record done, the bank as it was.
-pub fn refused(bank: Bank, why: Refusal) -> Replayed
-    ensures { (s : List ℕ) → replayed_out result s ≡ replay_begun (number_of why) (controller bank s []) }
+// A replay that is refused as a whole, by the number of its look-up: no record done, the bank as it was.
+pub fn refused(bank: Bank, why: u32) -> Replayed
+    ensures { (s : List ℕ) → replayed_out result s ≡ replay_begun why (controller bank s []) }
 {
     let told = Report {
-        number: u32::from(why),
+        number: why,
         count: 0,
         answer: NO_ANSWER,
     };

@@ -57,7 +57,7 @@ pub fn step_parts(
     ensures { step_of result (left flags commands payloads store output) ≡ step rings (controller_of st h (lent flags commands payloads store output)) call }
 {
     if let Err(why) = fault {
-        return answer::refuse(st, h, why);
+        return answer::refuse(st, h, u32::from(why));
     }
     serve(st, h, flags, commands, payloads, store, output, call)
 }

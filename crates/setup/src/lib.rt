@@ -82,15 +82,12 @@ fn refused_set_up() -> SetUp
 pub fn set_up(caps: Sizes, marks: Sizes, id: u32) -> SetUp
     ensures { result ≡ set_up caps marks id }
 {
-    let Ok(id) = u8::try_from(id) else {
-        return refused_set_up();
-    };
-    if !sizes_ok(caps, marks) {
-        return refused_set_up();
-    }
-    SetUp {
-        bank: fresh_bank(caps, marks, true, id),
-        answer: Answer::done(0),
+    match u8::try_from(id) {
+        Ok(id) if sizes_ok(caps, marks) => SetUp {
+            bank: fresh_bank(caps, marks, true, id),
+            answer: Answer::done(0),
+        },
+        _ => refused_set_up(),
     }
 }
 

@@ -122,7 +122,7 @@ pub fn start(st: State, w: u32, x: u32, flags: u8) -> Effect
     ensures { (t : Tables) (f : Fronts) → w ≡ f.cmd.first → x ≡ f.cmd.second → flags ≡ flags_of w t → effect_of result t ≡ verdict start (seen st t f) }
 {
     if let Err(why) = start_tests(st, w, x) {
-        return effect::refuse(st, why);
+        return effect::refused(st, why);
     }
     let two = bank::bit(22, w);
     let attached = is_attached(kind_of(two, w, x), flags);

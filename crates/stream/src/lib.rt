@@ -25,7 +25,7 @@ fn open(b: Bank, store: &mut [u32], bytes: &[u8], out: &mut [u8]) -> StreamTurn
             used: 0,
             count: 0,
         },
-        Head::Wrong(why) => stream_end::close(b, why, bytes.len(), out, 0),
+        Head::Wrong(why) => stream_end::close(b, u32::from(why), bytes.len(), out, 0),
         Head::Right(len, records) => {
             let f = stream_records::feed_records(b, store, records, &bytes[len..], out);
             StreamTurn {

@@ -3,7 +3,7 @@
 #![tactic(auto)]
 
 ghost use Rattle.std.specs.Prelude.{◌≡◌, List, [], ◌++◌, ℕ, ◌+◌, ◌≤◌, length, take};
-ghost use Rattle.number.specs.Refusals.{number_of, told};
+ghost use Rattle.number.specs.Refusals.{told};
 ghost use Rattle.answer.specs.Given.{controller};
 ghost use Rattle.print.specs.Line.{line_of};
 ghost use Rattle.stream_model.specs.declared.Stage.TheVariants.{Over};
@@ -23,22 +23,19 @@ pub struct StreamTurn {
     pub count: usize,
 }
 
-// The line of a refusal, with the value 0.
-fn refusal(why: Refusal) -> [u8; 12]
-    ensures { result ≡ line_of 0 (number_of why) }
+// The line of a number of the replay's own, with the value 0.
+fn refusal(number: u32) -> [u8; 12]
+    ensures { result ≡ line_of 0 number }
 {
-    print::line(Answer {
-        value: 0,
-        number: u32::from(why),
-    })
+    print::line(Answer { value: 0, number })
 }
 
 // A replay that ends with a number of its own: a layer, no interface.
-pub fn close(bank: Bank, why: Refusal, used: usize, out: &mut [u8], at: usize) -> StreamTurn
+pub fn close(bank: Bank, number: u32, used: usize, out: &mut [u8], at: usize) -> StreamTurn
     requires { at + 12 ≤ length out.old }
-    ensures { ((s : List ℕ) → fed_by result s out.new ≡ stream (controller bank s []) Over used (take at out.old ++ line_of 0 (number_of why))) × (result.count ≡ at + 12) × (result.used ≡ used) }
+    ensures { ((s : List ℕ) → fed_by result s out.new ≡ stream (controller bank s []) Over used (take at out.old ++ line_of 0 number)) × (result.count ≡ at + 12) × (result.used ≡ used) }
 {
-    print::put(out, at, refusal(why));
+    print::put(out, at, refusal(number));
     StreamTurn {
         bank,
         stage: Stage::Over,
@@ -76,6 +73,6 @@ pub fn end(stage: Stage, held: usize, out: &mut [u8]) -> usize
     let Err(why) = whole(stage, held) else {
         return 0;
     };
-    print::put(out, 0, refusal(why));
+    print::put(out, 0, refusal(u32::from(why)));
     12
 }

@@ -28,10 +28,10 @@ pub fn feed_records(
     let p = stream_lines::show(b, store, bytes, n, out);
     let len = bytes.len();
     if p.wrong {
-        return stream_end::close(p.bank, Refusal::WrongRecord, len, out, p.count);
+        return stream_end::close(p.bank, u32::from(Refusal::WrongRecord), len, out, p.count);
     }
     if (n == due) & (12 * n < len) {
-        return stream_end::close(p.bank, Refusal::WrongTable, len, out, p.count);
+        return stream_end::close(p.bank, u32::from(Refusal::WrongTable), len, out, p.count);
     }
     StreamTurn {
         bank: p.bank,

@@ -50,7 +50,7 @@ pub extern "C" fn thymewax_set_up(
 ) -> u32
     ensures { fresh result (kept_left image flags commands payloads) ≡ set_up_in (kept_lent image flags commands payloads) (sizes_given cmd cmdr sdo sdi ibi) (sizes_given cmdmark cmdrmark sdomark sdimark ibimark) id }
 {
-    let Some(image) = image.as_mut_array::<SIZE>() else {
+    let Some(words) = image.as_mut_array::<SIZE>() else {
         return u32::from(Refusal::NotWellFormed);
     };
     let caps = Five {
@@ -67,7 +67,7 @@ pub extern "C" fn thymewax_set_up(
         sdi: sdimark,
         ibi: ibimark,
     };
-    host_calls::set_up(image, flags, commands, payloads, caps, marks, id)
+    host_calls::set_up(words, flags, commands, payloads, caps, marks, id)
 }
 
 // One call: its letter, an offset and two values, as a record of a trace has them. 27 for numbers that name no call.
@@ -87,10 +87,10 @@ pub extern "C" fn thymewax_step(
     ensures { gave result (left_all image flags commands payloads store output) ≡ step_on (call_of letter offset first second) (lent_all image flags commands payloads store output) }
 {
     let Some(image) = image.as_mut_array::<SIZE>() else {
-        return host_parts::refused(Refusal::NotWellFormed);
+        return host_parts::refused(u32::from(Refusal::NotWellFormed));
     };
     if !image::is_encoded(image) {
-        return host_parts::refused(Refusal::NotWellFormed);
+        return host_parts::refused(u32::from(Refusal::NotWellFormed));
     }
     host_calls::step(
         image, flags, commands, payloads, store, output, letter, offset, first, second,

@@ -2,6 +2,12 @@
 // that the model is run at every capacity and watermark, on stores with old contents, and with outputs of every length.
 #![tactic(auto)]
 
+ghost use Rattle.bank.specs.SetUp.{set_up};
+ghost use Rattle.model.specs.Engine.{step};
+ghost use Rattle.model.specs.Rings.{rings};
+ghost use Rattle.answer.specs.Given.{controller};
+ghost use Rattle.trial_lines.specs.Engines.{with_lent, answered};
+
 use bank::{Answer, Bank, Counts, Sizes};
 use model::Call;
 use trial_lines::{Console, Engine};
@@ -13,6 +19,12 @@ struct Rings {
 }
 
 impl Engine for Rings {
+    ghost caps_of = { λ e. e.bank.state.caps };
+
+    ghost fresh = { λ caps marks id. let s = set_up caps marks id in answered s.answer (record { bank = s.bank }) };
+
+    ghost stepped = { λ l call. let r = step rings (controller l.engine.bank l.store l.output) call in answered r.answer (with_lent (record { bank = r.next.bank }) r.next.store r.next.output) };
+
     fn caps(&self) -> Counts {
         self.bank.state.caps
     }

@@ -3,7 +3,11 @@
 // engine what `Engine` says.
 #![tactic(auto)]
 
-ghost use Rattle.std.specs.Prelude.{◌≡◌, ◌+◌, ◌*◌, ◌≤◌, length, OnOk};
+ghost use Rattle.std.specs.Prelude.{◌≡◌, ℕ, ◌+◌, ◌*◌, ◌≤◌, length, OnOk};
+ghost use Rattle.bank.specs.Fives.{Counts, Sizes};
+ghost use Rattle.model.specs.declared.Call.{Call};
+ghost use Rattle.model.specs.Engine.{Step};
+ghost use Rattle.trial_lines.specs.Engines.{WithLent, with_lent, answered};
 ghost use Rattle.trial_lines.specs.Growing.{Grows};
 ghost use Rattle.trial_lines.specs.TestLines.{no_line, test_letter_read, next_field, eat_test, letter_named, five_from, asked_of, lent_test, word_shown, console_of};
 
@@ -25,6 +29,9 @@ const LEND: u8 = b'O';
 
 // `P` and the place of a word of the output.
 const SHOW: u8 = b'P';
+
+// Room for five queues of the largest capacity.
+const STORE: usize = 5120;
 
 // A line so far.
 #[derive(Clone, Copy)]
@@ -202,14 +209,26 @@ pub fn put(answer: Option<Answer>, out: &mut [u8], at: usize) -> usize
 // ── A console ──────────────────────────────────────────────────────────────────────────────────────────────────
 // A bank, and what makes calls on it.
 pub trait Engine {
+    // What `caps` gives.
+    ghost caps_of: { Self → Counts };
+
+    // What a set-up gives, whatever bank was there before.
+    ghost fresh: { Sizes → Sizes → ℕ → Step Self };
+
+    // What a call gives, with the store and the output that are lent to it.
+    ghost stepped: { WithLent Self → Call → Step (WithLent Self) };
+
     // The capacities of its queues.
-    fn caps(&self) -> Counts;
+    fn caps(&self) -> Counts
+        ensures { result ≡ caps_of self.now };
 
     // Another bank.
-    fn set_up(&mut self, caps: Sizes, marks: Sizes, id: u32) -> Answer;
+    fn set_up(&mut self, caps: Sizes, marks: Sizes, id: u32) -> Answer
+        ensures { answered result self.new ≡ fresh caps marks id };
 
     // A call, on the words that are lent.
-    fn step(&mut self, store: &mut [u32], output: &mut [u32], call: Call) -> Answer;
+    fn step(&mut self, store: &mut [u32], output: &mut [u32], call: Call) -> Answer
+        ensures { answered result (with_lent self.new store.new output.new) ≡ stepped (with_lent self.old store.old output.old) call };
 }
 
 // An engine, the output that is lent to every call, and the line so far.
@@ -273,14 +292,19 @@ impl<E: Engine> Console<E> {
         ensures { result ≤ length out.new }
     {
         let mut count = 0;
+        // The line is a local in the loop: at its place it is stored and loaded whole for each byte.
+        let mut line = self.line;
         for byte in piece {
             if *byte != b'\n' {
-                self.line = eat(self.line, *byte);
+                line = eat(line, *byte);
                 continue;
             }
+            self.line = line;
             let answer = self.end_line(store);
+            line = self.line;
             count = put(answer, out, count);
         }
+        self.line = line;
         count
     }
 
@@ -293,7 +317,40 @@ impl<E: Engine> Console<E> {
         put(answer, out, 0)
     }
 
-    // A whole input, in pieces, to its end or up to text that could not be written. An input that cannot be read ends.
+    // The pieces of an input, to its end or up to text that could not be written. An input that cannot be read ends.
+    fn feed_all<R: Read, W: Write, F: Fn(Line, u8) -> Line>(
+        &mut self,
+        store: &mut [u32],
+        input: &mut R,
+        output: &mut W,
+        eat: F,
+    ) -> io::Result<()>
+        requires { F.IsAlwaysCallable eat }
+        ensures { OnOk result (Grows (W.contents output.old) (W.contents output.new)) }
+    {
+        let mut piece = [0u8; 4096];
+        let mut out = [0u8; 65536];
+        for _ in 0..u64::MAX {
+            let n = input.read(&mut piece).unwrap_or(0);
+            if n == 0 {
+                return Ok(());
+            }
+            let m = self.feed(store, &eat, &piece[..n], &mut out);
+            output.write_all(&out[..m])?;
+        }
+        Ok(())
+    }
+
+    // What the end of the input prints.
+    fn write_last<W: Write>(&mut self, store: &mut [u32], output: &mut W) -> io::Result<()>
+        ensures { OnOk result (Grows (W.contents output.old) (W.contents output.new)) }
+    {
+        let mut out = [0u8; 12];
+        let m = self.close(store, &mut out);
+        output.write_all(&out[..m])
+    }
+
+    // A whole input. Where text could not be written, that is its end.
     pub fn run<R: Read, W: Write, F: Fn(Line, u8) -> Line>(
         &mut self,
         input: &mut R,
@@ -303,19 +360,25 @@ impl<E: Engine> Console<E> {
         requires { F.IsAlwaysCallable eat }
         ensures { OnOk result (Grows (W.contents output.old) (W.contents output.new)) }
     {
-        // Room for five queues of the largest capacity.
-        let mut store = [0u32; 5120];
-        let mut piece = [0u8; 4096];
-        let mut out = [0u8; 65536];
-        for _ in 0..u64::MAX {
-            let n = input.read(&mut piece).unwrap_or(0);
-            if n == 0 {
-                let m = self.close(&mut store, &mut out);
-                return output.write_all(&out[..m]);
-            }
-            let m = self.feed(&mut store, &eat, &piece[..n], &mut out);
-            output.write_all(&out[..m])?;
-        }
-        Ok(())
+        let mut store = [0u32; STORE];
+        self.feed_all(&mut store, input, output, eat)?;
+        self.write_last(&mut store, output)
+    }
+
+    // A whole input. Where text could not be written, the line that is open then is closed all the same, and what it prints
+    // is tried to be written.
+    pub fn run_to_last<R: Read, W: Write, F: Fn(Line, u8) -> Line>(
+        &mut self,
+        input: &mut R,
+        output: &mut W,
+        eat: F,
+    ) -> io::Result<()>
+        requires { F.IsAlwaysCallable eat }
+        ensures { OnOk result (Grows (W.contents output.old) (W.contents output.new)) }
+    {
+        let mut store = [0u32; STORE];
+        let fed = self.feed_all(&mut store, input, output, eat);
+        let last = self.write_last(&mut store, output);
+        fed.and(last)
     }
 }

@@ -15,11 +15,18 @@ use bank::{Control, Regs, State};
 use effect::Effect;
 use number::Refusal;
 
-// The test of the output: 13 where its `len` words are fewer than the reads of the burst (`burst.output`).
+// Whether an output of `len` words is too short for the reads of the burst (`burst.output`).
+pub fn is_output_short(g: Regs, commands: &[u32; 16], len: usize) -> bool
+    ensures { result ≡ ltb len (reads_in (span g) commands.now) }
+{
+    len < burst_commands::reads_in(commands, burst_commands::span_of(g))
+}
+
+// The test of the output: 13 where it is too short (`burst.output`).
 pub fn output_tests(g: Regs, commands: &[u32; 16], len: usize) -> Result<(), Refusal>
     ensures { (n : ℕ) → told_or n result ≡ cond (ltb len (reads_in (span g) commands.now)) number.no_room n }
 {
-    if len < burst_commands::reads_in(commands, burst_commands::span_of(g)) {
+    if is_output_short(g, commands, len) {
         Err(Refusal::NoRoom)
     } else {
         Ok(())
@@ -57,7 +64,7 @@ pub fn trigger(st: State, flags: &[u8; 128], commands: &[u32; 16], len: usize) -
     ensures { (p o : List ℕ) (f : Fronts) → length o ≡ len → (let t = tables flags.now commands.now p o in effect_of result t ≡ verdict trigger (seen st t f)) }
 {
     if let Err(why) = trigger_tests(st, commands, len) {
-        return effect::refuse(st, why);
+        return effect::refused(st, why);
     }
     let w = commands[0];
     let at = (w / 2 % 0x80) as usize;

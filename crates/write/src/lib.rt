@@ -9,7 +9,7 @@ ghost use Rattle.effect.specs.Effects.{effect_of, verdict};
 ghost use Rattle.effect.specs.Seen.{Fronts, seen};
 
 use bank::State;
-use effect::{Effect, refuse};
+use effect::{Effect, refused};
 use number::Refusal;
 use registers::Register;
 
@@ -18,30 +18,30 @@ pub fn write(r: Register, st: State, x: u32) -> Effect
     ensures { (t : Tables) (f : Fronts) → effect_of result t ≡ verdict (λ v. write (row r) v x) (seen st t f) }
 {
     match r {
-        Register::Version => refuse(st, Refusal::DroppedReadOnly),
-        Register::Id => refuse(st, Refusal::DroppedReadOnly),
+        Register::Version => refused(st, Refusal::DroppedReadOnly),
+        Register::Id => refused(st, Refusal::DroppedReadOnly),
         Register::Scratch => write_cells::write_scratch(st, x),
         Register::Enable => write_control::write_enable(st, x),
         Register::IrqMask => write_cells::write_mask(st, x),
         Register::IrqPending => write_control::write_pending(st, x),
-        Register::IrqSource => refuse(st, Refusal::DroppedReadOnly),
-        Register::CmdRoom => refuse(st, Refusal::DroppedReadOnly),
-        Register::CmdrLevel => refuse(st, Refusal::DroppedReadOnly),
-        Register::SdoRoom => refuse(st, Refusal::DroppedReadOnly),
-        Register::SdiLevel => refuse(st, Refusal::DroppedReadOnly),
-        Register::IbiLevel => refuse(st, Refusal::DroppedReadOnly),
+        Register::IrqSource => refused(st, Refusal::DroppedReadOnly),
+        Register::CmdRoom => refused(st, Refusal::DroppedReadOnly),
+        Register::CmdrLevel => refused(st, Refusal::DroppedReadOnly),
+        Register::SdoRoom => refused(st, Refusal::DroppedReadOnly),
+        Register::SdiLevel => refused(st, Refusal::DroppedReadOnly),
+        Register::IbiLevel => refused(st, Refusal::DroppedReadOnly),
         Register::CmdFifo => write_control::write_cmd(st, x),
-        Register::CmdrFifo => refuse(st, Refusal::DroppedReadOnly),
+        Register::CmdrFifo => refused(st, Refusal::DroppedReadOnly),
         Register::SdoFifo => write_control::write_sdo(st, x),
-        Register::SdiFifo => refuse(st, Refusal::DroppedReadOnly),
-        Register::IbiFifo => refuse(st, Refusal::DroppedReadOnly),
-        Register::FifoStatus => refuse(st, Refusal::DroppedReadOnly),
+        Register::SdiFifo => refused(st, Refusal::DroppedReadOnly),
+        Register::IbiFifo => refused(st, Refusal::DroppedReadOnly),
+        Register::FifoStatus => refused(st, Refusal::DroppedReadOnly),
         Register::Ops => write_cells::write_ops(st, x),
         Register::IbiConfig => write_cells::write_config(st, x),
         Register::DevChar => write_cells::write_device(st, x),
-        Register::Watermark(q) => watermarks::write_watermark(st, q, x),
+        Register::Watermark(i) => watermarks::write_watermark(st, i, x),
         Register::OffloadCmd(i) => write_cells::write_offload_cmd(st, i, x),
         Register::OffloadSdo(i) => write_cells::write_offload_sdo(st, i, x),
-        Register::Unmapped => refuse(st, Refusal::NoRegister),
+        Register::Unmapped => refused(st, Refusal::NoRegister),
     }
 }

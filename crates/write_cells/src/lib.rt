@@ -76,7 +76,7 @@ pub fn write_ops(st: State, x: u32) -> Effect
     ensures { (t : Tables) (f : Fronts) → effect_of result t ≡ verdict (λ v. write (row Ops) v x) (seen st t f) }
 {
     if let Err(why) = burst_tests(st.control) {
-        return effect::refuse(st, why);
+        return effect::refused(st, why);
     }
     let regs = Regs {
         ops: (x % 0x80) as u8,
@@ -110,7 +110,7 @@ fn put_entry(st: State, entry: Table) -> Effect
     ensures { (x : Tables) → effect_of result x ≡ record { value = 0; number = word_if (bursting st.control) 6; regs = st.regs; control = st.control; phase = st.phase; tables = cond (bursting st.control) x (tables_by entry x); ops = keep_all } }
 {
     match burst_tests(st.control) {
-        Err(why) => effect::refuse(st, why),
+        Err(why) => effect::refused(st, why),
         Ok(()) => effect::done_with(st, 0, 0, None, entry),
     }
 }

@@ -95,7 +95,7 @@ pub fn write_cmd(st: State, x: u32) -> Effect
     ensures { (t : Tables) (f : Fronts) → effect_of result t ≡ verdict (λ v. write (row CmdFifo) v x) (seen st t f) }
 {
     match push_tests(st.control.held, st.caps.cmd.0, st.levels.cmd.0) {
-        Err(why) => effect::refuse(st, why),
+        Err(why) => effect::refused(st, why),
         Ok(()) => effect::done(st, 0, 0, effect::on(Queue::Cmd, true, Op::Push(x))),
     }
 }
@@ -105,7 +105,7 @@ pub fn write_sdo(st: State, x: u32) -> Effect
     ensures { (t : Tables) (f : Fronts) → effect_of result t ≡ verdict (λ v. write (row SdoFifo) v x) (seen st t f) }
 {
     if let Err(why) = push_tests(st.control.held, st.caps.sdo.0, st.levels.sdo.0) {
-        return effect::refuse(st, why);
+        return effect::refused(st, why);
     }
     let control = Control {
         daapending: false,

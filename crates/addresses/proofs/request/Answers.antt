@@ -9,7 +9,7 @@ use Rattle.addresses.proofs.request.Goals as goal
 pub returns-in-Err : goal.returns-in-Err
 returns-in-Err c = λ t f.
     let a = c.args in
-    c.refuse.ensures t f ∙ refused_err (λ (v : View). request v a.x a.w) (seen a.st t f) _ (c.request_tests.ensures t f a.x a.w) _ c.in-Err.is
+    c.refused.ensures t f ∙ refused_err (λ (v : View). request v a.x a.w) (seen a.st t f) _ (c.request_tests.ensures t f a.x a.w) _ c.in-Err.is
 
 pub returns : goal.returns
 unfolding request

@@ -6,7 +6,7 @@ use Rattle.effect.proofs.Laws.{refused_err, served_ok}
 use Rattle.addresses.proofs.take_address.Goals as goal
 
 pub returns-in-Err : goal.returns-in-Err
-returns-in-Err c = λ t f w. c.refuse.ensures t f ∙ refused_err take_address (seen c.args.st t f) _ (c.take_tests.ensures t f) _ c.in-Err.is
+returns-in-Err c = λ t f w. c.refused.ensures t f ∙ refused_err take_address (seen c.args.st t f) _ (c.take_tests.ensures t f) _ c.in-Err.is
 
 pub returns : goal.returns
 unfolding take_address

@@ -14,7 +14,7 @@ pub returns-in-Err : goal.returns-in-Err
 returns-in-Err c = λ b p o f h.
     let a = c.args in
     let t = tables b a.commands.now p o in
-    c.refuse.ensures t f ∙ refused_err (λ v. output_first v (burst_receive v a.byte)) (seen a.st t f) _ (c.receive_tests.ensures b p o f a.byte h) _ c.in-Err.is
+    c.refused.ensures t f ∙ refused_err (λ v. output_first v (burst_receive v a.byte)) (seen a.st t f) _ (c.receive_tests.ensures b p o f a.byte h) _ c.in-Err.is
 
 pub gathered-w-requires : goal.gathered-w-requires
 gathered-w-requires c =

@@ -16,7 +16,7 @@ returns-in-Err c = λ b o f h.
     let a = c.args in
     let p = a.payloads.now in
     let t = tables b a.commands.now p o in
-    c.refuse.ensures t f ∙ refused_err (λ v. output_first v (burst_send v)) (seen a.st t f) _ (c.send_tests.ensures b p o f h) _ c.in-Err.is
+    c.refused.ensures t f ∙ refused_err (λ v. output_first v (burst_send v)) (seen a.st t f) _ (c.send_tests.ensures b p o f h) _ c.in-Err.is
 
 pub data_word-w-requires : goal.data_word-w-requires
 data_word-w-requires c = (burst_place c.args.st c.args.commands.now c.requires.0 c.requires.1).0

@@ -14,7 +14,7 @@ pub returns-in-Err : goal.returns-in-Err
 returns-in-Err c = λ p o f h.
     let a = c.args in
     let t = tables a.flags.now a.commands.now p o in
-    c.refuse.ensures t f ∙ refused_err (λ v. output_first v (burst_finish v a.code)) (seen a.st t f) _ (c.finish_tests.ensures a.flags.now p o f h) _ c.in-Err.is
+    c.refused.ensures t f ∙ refused_err (λ v. output_first v (burst_finish v a.code)) (seen a.st t f) _ (c.finish_tests.ensures a.flags.now p o f h) _ c.in-Err.is
 
 pub reads_in-place-requires : goal.reads_in-place-requires
 reads_in-place-requires c =

@@ -11,7 +11,7 @@ returns-then-is_misfit g c =
     let a = c.args in
     λ o f w n.
     let t = tables_seen a.t o in
-    c.refuse.ensures t f ∙ misfits (seen a.st t f) a.call (sym c.is_misfit.ensures ∙ c.if-is_misfit.true)
+    c.refused.ensures t f ∙ misfits (seen a.st t f) a.call (sym c.is_misfit.ensures ∙ c.if-is_misfit.true)
 
 pub returns-then-is_bursting-is_event : goal.returns-then-is_bursting-is_event
 returns-then-is_bursting-is_event g c =

@@ -9,7 +9,7 @@ use Rattle.finish.proofs.finish.Goals as goal
 
 pub returns-in-Err : goal.returns-in-Err
 returns-in-Err c = λ t f.
-    c.refuse.ensures t f ∙ refused_err (λ (v : View). finish v c.args.code) (seen c.args.st t f) _ (c.finish_tests.ensures t f) _ c.in-Err.is
+    c.refused.ensures t f ∙ refused_err (λ (v : View). finish v c.args.code) (seen c.args.st t f) _ (c.finish_tests.ensures t f) _ c.in-Err.is
 
 pub returns : goal.returns
 unfolding finish

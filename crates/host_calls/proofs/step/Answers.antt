@@ -18,7 +18,7 @@ returns-then-not-parts_formed c =
     let k = kept a.image.now a.flags.now a.commands.now a.payloads.now in
     let b = said_by_parts k _ _ c.state_in-s.ensures c.heads_in-h.ensures in
     let n = not_formed k (ap well_formed (sym b) ∙ sym (c.if-not-parts_formed.ensures a.payloads.now)) in
-    refuses _ _ k _ _ _ c.refused.ensures (no_bank k a.store.now a.output.now (call_of a.letter a.offset a.first a.second) n)
+    refuses _ _ _ k _ _ _ c.refused.ensures c.from.ensures (no_bank k a.store.now a.output.now (call_of a.letter a.offset a.first a.second) n)
 
 pub returns-in-Some : goal.returns-in-Some
 returns-in-Some c =
@@ -37,4 +37,4 @@ returns-in-None c =
     let k = kept a.image.now a.flags.now a.commands.now a.payloads.now in
     let b = said_by_parts k _ _ c.state_in-s.ensures c.heads_in-h.ensures in
     let t = formed_kept k (sized_is k c.told-image c.told-flags c.told-commands c.told-payloads) c.requires ∙ ap well_formed (sym b) ∙ sym (c.if-not-parts_formed.ensures a.payloads.now) in
-    refuses _ _ k _ _ _ c.refused-in-None.ensures (no_call k a.store.now a.output.now q t (sym c.in-None.ensures))
+    refuses _ _ _ k _ _ _ c.refused-in-None.ensures c.from-in-None.ensures (no_call k a.store.now a.output.now q t (sym c.in-None.ensures))

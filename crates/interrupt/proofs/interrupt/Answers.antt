@@ -9,7 +9,7 @@ use Rattle.interrupt.proofs.interrupt.Goals as goal
 pub returns-in-Err : goal.returns-in-Err
 returns-in-Err c = λ t x h.
     let a = c.args in
-    c.refuse.ensures t x ∙ refused_err (λ (v : View). interrupt v a.address a.byte) (seen a.st t x) _ (c.interrupt_tests.ensures t x a.address a.byte h) _ c.in-Err.is
+    c.refused.ensures t x ∙ refused_err (λ (v : View). interrupt v a.address a.byte) (seen a.st t x) _ (c.interrupt_tests.ensures t x a.address a.byte h) _ c.in-Err.is
 
 pub returns : goal.returns
 unfolding interrupt

@@ -21,7 +21,7 @@ returns-in-Start c = λ o f n i m.
     let s = seen st t f in
     let z = in_burst st.control st.regs st.phase ws c.requires.0 c.requires.1 in
     let lacks = short_is st a.t.flags.now ws a.t.payloads.now o f a.len c.requires.0 n in
-    called s _ _ _ c.in-Start.is (c.bar.ensures t f ∙ ap (λ (b : Bool). unchanged s with_number cond b 13 (cond st.control.held 5 6)) lacks ∙ bars_start s z.0)
+    called s _ _ _ c.in-Start.is (c.bar_event.ensures t f ∙ ap (λ (b : Bool). unchanged s with_number cond b 13 (cond st.control.held 5 6)) lacks ∙ bars_start s z.0)
 
 pub returns-in-Send : goal.returns-in-Send
 returns-in-Send c = λ o f n i m.
@@ -63,7 +63,7 @@ returns-in-Interrupt c = λ o f n i m.
     let lacks = short_is st a.t.flags.now ws a.t.payloads.now o f a.len c.requires.0 n in
     let d = c.in-Interrupt.field-0 in
     let k = c.in-Interrupt.field-1 in
-    let e = c.bar-in-Interrupt.ensures t f ∙ ap (λ (b : Bool). unchanged s with_number cond b 13 (cond st.control.held 5 6)) lacks ∙ bars_interrupt s z.0 d k in
+    let e = c.bar_event-in-Interrupt.ensures t f ∙ ap (λ (b : Bool). unchanged s with_number cond b 13 (cond st.control.held 5 6)) lacks ∙ bars_interrupt s z.0 d k in
     called s _ _ _ c.in-Interrupt.is (past s (λ v. misfit (Interrupt d k)) 18 (λ v. short_in_burst v ⇒ 13 ∣ interrupt v d k) _ (sym (ap misfit c.in-Interrupt.is) ∙ m) e)
 
 pub returns-in-Request : goal.returns-in-Request
@@ -75,7 +75,7 @@ returns-in-Request c = λ o f n i m.
     let s = seen st t f in
     let z = in_burst st.control st.regs st.phase ws c.requires.0 c.requires.1 in
     let lacks = short_is st a.t.flags.now ws a.t.payloads.now o f a.len c.requires.0 n in
-    called s _ _ _ c.in-Request.is (c.bar-in-Request.ensures t f ∙ ap (λ (b : Bool). unchanged s with_number cond b 13 (cond st.control.held 5 10)) lacks ∙ bars_request s z.0 z.1 _ _)
+    called s _ _ _ c.in-Request.is (c.bar_event-in-Request.ensures t f ∙ ap (λ (b : Bool). unchanged s with_number cond b 13 (cond st.control.held 5 10)) lacks ∙ bars_request s z.0 z.1 _ _)
 
 pub returns-in-Take : goal.returns-in-Take
 returns-in-Take c = λ o f n i m.
@@ -86,7 +86,7 @@ returns-in-Take c = λ o f n i m.
     let s = seen st t f in
     let z = in_burst st.control st.regs st.phase ws c.requires.0 c.requires.1 in
     let lacks = short_is st a.t.flags.now ws a.t.payloads.now o f a.len c.requires.0 n in
-    called s _ _ _ c.in-Take.is (c.bar-in-Take.ensures t f ∙ ap (λ (b : Bool). unchanged s with_number cond b 13 (cond st.control.held 5 10)) lacks ∙ bars_take s z.0 z.1)
+    called s _ _ _ c.in-Take.is (c.bar_event-in-Take.ensures t f ∙ ap (λ (b : Bool). unchanged s with_number cond b 13 (cond st.control.held 5 10)) lacks ∙ bars_take s z.0 z.1)
 
 pub returns-in-Trigger : goal.returns-in-Trigger
 returns-in-Trigger c = λ o f n i m.
@@ -97,4 +97,4 @@ returns-in-Trigger c = λ o f n i m.
     let s = seen st t f in
     let z = in_burst st.control st.regs st.phase ws c.requires.0 c.requires.1 in
     let lacks = short_is st a.t.flags.now ws a.t.payloads.now o f a.len c.requires.0 n in
-    called s _ _ _ c.in-Trigger.is (c.bar-in-Trigger.ensures t f ∙ ap (λ (b : Bool). unchanged s with_number cond b 13 (cond st.control.held 5 6)) lacks ∙ bars_trigger s z.0)
+    called s _ _ _ c.in-Trigger.is (c.bar_event-in-Trigger.ensures t f ∙ ap (λ (b : Bool). unchanged s with_number cond b 13 (cond st.control.held 5 6)) lacks ∙ bars_trigger s z.0)

@@ -10,7 +10,7 @@ use Rattle.payload.proofs.receive.Goals as goal
 
 pub returns-in-Err : goal.returns-in-Err
 returns-in-Err c = λ t f.
-    c.refuse.ensures t f ∙ refused_err (λ (v : View). receive v c.args.byte) (seen c.args.st t f) _ (c.receive_tests.ensures t f c.args.byte) _ c.in-Err.is
+    c.refused.ensures t f ∙ refused_err (λ (v : View). receive v c.args.byte) (seen c.args.st t f) _ (c.receive_tests.ensures t f c.args.byte) _ c.in-Err.is
 
 pub gathered-w-requires : goal.gathered-w-requires
 gathered-w-requires c = read_room c.args.st (told c.receive_tests.result) c.transfer_of-t.result c.receive_tests.ensures (ap told c.in_default.is) c.transfer_of-t.ensures c.requires

@@ -8,7 +8,7 @@ use Rattle.payload.proofs.Bytes.{sent_below}
 use Rattle.payload.proofs.send.Goals as goal
 
 pub returns-in-Err : goal.returns-in-Err
-returns-in-Err c = λ t f w. c.refuse.ensures t f ∙ refused_err send (seen c.args.st t f) _ (c.send_tests.ensures t f) _ c.in-Err.is
+returns-in-Err c = λ t f w. c.refused.ensures t f ∙ refused_err send (seen c.args.st t f) _ (c.send_tests.ensures t f) _ c.in-Err.is
 
 pub advance-next-requires : goal.advance-next-requires
 advance-next-requires c = sent_below c.args.st (told c.send_tests.result) c.transfer_of-t.result c.send_tests.ensures (ap told c.in_default.is) c.transfer_of-t.ensures

@@ -1,7 +1,6 @@
 -- `read::read`: each register, by its row.
-use Rattle.std.proofs.Common.{ap, arith, refl, ◌∙◌}
+use Rattle.std.proofs.Common.{arith, refl, ◌∙◌}
 use Rattle.registers.specs.declared.Register.TheVariants.{Version, Id, Scratch, Enable, IrqMask, IrqPending, IrqSource, CmdRoom, CmdrLevel, SdoRoom, SdiLevel, IbiLevel, CmdFifo, SdoFifo, FifoStatus, Ops, IbiConfig, DevChar, Watermark, OffloadCmd, OffloadSdo, Unmapped}
-use Rattle.ring.specs.declared.Words.{Words}
 use Rattle.model.specs.Registers.{row, read}
 use Rattle.effect.proofs.Laws.{refused_as, no_tables, no_fronts}
 use Rattle.read.proofs.Rows.{shown_row}
@@ -62,7 +61,7 @@ pub returns-in-DevChar : goal.returns-in-DevChar
 returns-in-DevChar c = λ o f. rw c.in-DevChar.is (λ w. c.show-in-DevChar.ensures _ f ∙ shown_row DevChar _ (c.device_word.ensures ∙ rw c.entry_at.ensures) refl)
 
 pub returns-in-Watermark : goal.returns-in-Watermark
-returns-in-Watermark c = λ o f. rw c.in-Watermark.is (λ w. c.show-in-Watermark.ensures _ f ∙ shown_row (Watermark c.in-Watermark.q) _ (ap (λ (w : Words). w.0) c.of.ensures) refl)
+returns-in-Watermark c = λ o f. rw c.in-Watermark.is (λ w. c.show-in-Watermark.ensures _ f ∙ shown_row (Watermark c.in-Watermark.i) _ c.count_at.ensures refl)
 
 pub returns-in-OffloadCmd : goal.returns-in-OffloadCmd
 returns-in-OffloadCmd c = λ o f. rw c.in-OffloadCmd.is (λ w. c.show-in-OffloadCmd.ensures _ f ∙ shown_row (OffloadCmd c.in-OffloadCmd.i) _ c.entry_at-in-OffloadCmd.ensures refl)
@@ -71,4 +70,4 @@ pub returns-in-OffloadSdo : goal.returns-in-OffloadSdo
 returns-in-OffloadSdo c = λ o f. rw c.in-OffloadSdo.is (λ w. c.show-in-OffloadSdo.ensures _ f ∙ shown_row (OffloadSdo c.in-OffloadSdo.i) _ c.entry_at-in-OffloadSdo.ensures refl)
 
 pub returns-in-Unmapped : goal.returns-in-Unmapped
-returns-in-Unmapped c = λ o f. rw c.in-Unmapped.is (λ w. c.refuse.ensures _ f ∙ refused_as (read (row Unmapped)) _ 4 (λ z. omega arith) refl)
+returns-in-Unmapped c = λ o f. rw c.in-Unmapped.is (λ w. c.refused.ensures _ f ∙ refused_as (read (row Unmapped)) _ 4 (λ z. omega arith) refl)

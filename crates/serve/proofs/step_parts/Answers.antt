@@ -12,7 +12,7 @@ pub returns-in-Err : goal.returns-in-Err
 returns-in-Err c =
     let a = c.args in
     let b = bank_with a.st a.h (tables a.flags.now a.commands.now a.payloads.now a.output.now) in
-    rw c.refuse.ensures (refuses (controller b a.store.now a.output.now) a.call _ (not_0 c.in-Err.why) (sym (ap told c.in-Err.is) ∙ c.requires))
+    rw (c.refuse.ensures, c.from.ensures) (refuses (controller b a.store.now a.output.now) a.call _ (not_0 c.in-Err.why) (sym (ap told c.in-Err.is) ∙ c.requires))
 
 pub serve-requires : goal.serve-requires
 serve-requires c =

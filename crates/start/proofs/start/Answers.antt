@@ -8,7 +8,7 @@ use Rattle.start.proofs.Starting.{started}
 use Rattle.start.proofs.start.Goals as goal
 
 pub returns-in-Err : goal.returns-in-Err
-returns-in-Err c = λ t f h i j. c.refuse.ensures t f ∙ refused_err start (seen c.args.st t f) _ (c.start_tests.ensures t f h i) _ c.in-Err.is
+returns-in-Err c = λ t f h i j. c.refused.ensures t f ∙ refused_err start (seen c.args.st t f) _ (c.start_tests.ensures t f h i) _ c.in-Err.is
 
 pub returns : goal.returns
 returns c = λ t f h i j.

@@ -1,11 +1,15 @@
 -- A wrong head, and the records behind a right one.
-use Rattle.std.proofs.Common.{arith}
+use Rattle.std.proofs.Common.{[], ap, ◌∙◌, arith}
+use Rattle.answer.specs.Given.{controller}
+use Rattle.stream_model.specs.Stream.{over}
 use Rattle.stream.proofs.Stages.{head_there, head_wrong, head_right, rest_length}
 use Rattle.stream.proofs.open.Goals as goal
 
 pub returns-in-Wrong : goal.returns-in-Wrong
 returns-in-Wrong c =
-    (head_wrong _ _ c.read_head.ensures _ _ _ _ c.in-Wrong.is (c.close.ensures.0 _), (omega arith, omega arith, omega arith))
+    let a = c.args in
+    let told = ap (over (controller a.b a.store.now []) a.bytes.now []) c.from.ensures in
+    (head_wrong _ _ c.read_head.ensures _ _ _ _ c.in-Wrong.is (c.close.ensures.0 _ ∙ told), (omega arith, omega arith, omega arith))
 
 pub returns-in-Right : goal.returns-in-Right
 returns-in-Right c =

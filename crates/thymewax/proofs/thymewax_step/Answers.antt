@@ -12,7 +12,7 @@ returns-in_default c =
     let a = c.args in
     let k = kept a.image.now a.flags.now a.commands.now a.payloads.now in
     let n : length a.image.now ≡ 43 → ⊥ = search rules in
-    refuses _ _ k _ _ _ c.refused.ensures (no_bank k a.store.now a.output.now (call_of a.letter a.offset a.first a.second) (wrong_size k n))
+    refuses _ _ _ k _ _ _ c.refused.ensures c.from.ensures (no_bank k a.store.now a.output.now (call_of a.letter a.offset a.first a.second) (wrong_size k n))
 
 pub returns-then-not-is_encoded : goal.returns-then-not-is_encoded
 returns-then-not-is_encoded c =
@@ -22,4 +22,4 @@ returns-then-not-is_encoded c =
     let w : c.in-Some.image.now ≡ a.image.now = search rules in
     let n = no_bank k a.store.now a.output.now (call_of a.letter a.offset a.first a.second) (not_encoded k e) in
     ap (λ (x : List ℕ). gave c.refused-then-not-is_encoded.result (loan (kept x a.flags.now a.commands.now a.payloads.now) a.store.now a.output.now)) w
-    ∙ refuses _ _ k _ _ _ c.refused-then-not-is_encoded.ensures n
+    ∙ refuses _ _ _ k _ _ _ c.refused-then-not-is_encoded.ensures c.from-then-not-is_encoded.ensures n

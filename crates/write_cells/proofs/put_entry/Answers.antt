@@ -11,4 +11,4 @@ use Rattle.write_cells.proofs.put_entry.Goals as goal
 pub returns-in-Err : goal.returns-in-Err
 returns-in-Err c = λ x.
     let st = c.args.st in
-    c.refuse.ensures x no_fronts ∙ stays (seen st x no_fronts) (bursting st.control) _ _ (sym (ap told c.in-Err.is) ∙ c.burst_tests.ensures) (not_0 c.in-Err.why)
+    c.refused.ensures x no_fronts ∙ stays (seen st x no_fronts) (bursting st.control) _ _ (sym (ap told c.in-Err.is) ∙ c.burst_tests.ensures) (not_0 c.in-Err.why)

@@ -9,7 +9,7 @@ use Rattle.write_cells.proofs.write_ops.Goals as goal
 
 pub returns-in-Err : goal.returns-in-Err
 returns-in-Err c = λ t f.
-    c.refuse.ensures t f ∙ refused_err (λ (v : View). write (row Ops) v c.args.x) (seen c.args.st t f) _ c.burst_tests.ensures _ c.in-Err.is
+    c.refused.ensures t f ∙ refused_err (λ (v : View). write (row Ops) v c.args.x) (seen c.args.st t f) _ c.burst_tests.ensures _ c.in-Err.is
 
 pub returns : goal.returns
 returns c = λ t f.

@@ -9,7 +9,7 @@ use Rattle.write_control.proofs.write_cmd.Goals as goal
 
 pub returns-in-Err : goal.returns-in-Err
 returns-in-Err c = λ t f.
-    c.refuse.ensures t f ∙ refused_err (λ (v : View). write (row CmdFifo) v c.args.x) (seen c.args.st t f) _ c.push_tests.ensures _ c.in-Err.is
+    c.refused.ensures t f ∙ refused_err (λ (v : View). write (row CmdFifo) v c.args.x) (seen c.args.st t f) _ c.push_tests.ensures _ c.in-Err.is
 
 pub returns-in-Ok : goal.returns-in-Ok
 returns-in-Ok c = λ t f.

@@ -14,6 +14,7 @@ use queues::Queue;
 use ring::{Ring, Words};
 
 // The ring of a queue.
+#[tactic(auto, using(crate::proofs::Laws::ring_named))]
 pub fn ring(q: Queue, k: Counts, l: Counts, h: Heads) -> Ring
     ensures { result ≡ of q (queues_of k l h) }
 {
@@ -42,6 +43,7 @@ pub fn base(q: Queue, k: Counts) -> usize
 }
 
 // The word of a queue that lies `i` behind its first, or 0 where there is none.
+#[tactic(auto, using(crate::proofs::Laws::words_named, crate::proofs::Laws::stands_named))]
 pub fn word(q: Queue, k: Counts, l: Counts, h: Heads, store: &[u32], i: u32) -> u32
     requires { Ready (queues_of k l h) store.now }
     ensures { result ≡ get_or (words_in (of q (areas (queues_of k l h))) store.now) i 0 }

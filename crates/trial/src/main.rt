@@ -47,5 +47,5 @@ fn main(rt: HostRuntime) {
     let mut console = Console::begin(Rings {
         bank: setup::session_bank(),
     });
-    let _ = console.run(&mut rt.stdin(), &mut rt.stdout(), |line, b| line.eat(b));
+    let _ = console.run(&mut rt.stdin(), &mut rt.stdout(), |line, b| line.extend(b));
 }

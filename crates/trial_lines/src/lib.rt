@@ -100,18 +100,25 @@ impl Line {
         }
     }
 
-    // One byte of a line of a test.
-    pub fn eat(self, b: u8) -> Line
-        ensures { result ≡ eat_test self b }
+    // One byte of a line of a test, where the line lies: one that is moved for each byte is stored and loaded whole.
+    pub fn extend(&mut self, b: u8)
+        ensures { self.new ≡ eat_test self.old b }
     {
         let r = self.reading;
         if r.letter == SET_UP && b == b' ' {
-            return self.space();
+            *self = self.space();
+            return;
         }
-        Line {
-            reading: if r.letter == 0 { letter(b) } else { r.eat(b) },
-            ..self
-        }
+        self.reading = if r.letter == 0 { letter(b) } else { r.eat(b) };
+    }
+
+    // The same of a line by value.
+    pub fn eat(self, b: u8) -> Line
+        ensures { result ≡ eat_test self b }
+    {
+        let mut next = self;
+        next.extend(b);
+        next
     }
 
     // The letter of a line that ends here, where all its fields are there.
@@ -280,7 +287,7 @@ impl<E: Engine> Console<E> {
 
     // A piece of the input, of which `eat` reads the bytes: how many bytes of the text are filled. A layer, no
     // interface. The text has room for a line a byte.
-    pub fn feed<F: Fn(Line, u8) -> Line>(
+    pub fn feed<F: Fn(&mut Line, u8)>(
         &mut self,
         store: &mut [u32],
         eat: &F,
@@ -292,11 +299,11 @@ impl<E: Engine> Console<E> {
         ensures { result ≤ length out.new }
     {
         let mut count = 0;
-        // The line is a local in the loop: at its place it is stored and loaded whole for each byte.
+        // A local: the loop has its reading in registers.
         let mut line = self.line;
         for byte in piece {
             if *byte != b'\n' {
-                line = eat(line, *byte);
+                eat(&mut line, *byte);
                 continue;
             }
             self.line = line;
@@ -318,7 +325,7 @@ impl<E: Engine> Console<E> {
     }
 
     // The pieces of an input, to its end or up to text that could not be written. An input that cannot be read ends.
-    fn feed_all<R: Read, W: Write, F: Fn(Line, u8) -> Line>(
+    fn feed_all<R: Read, W: Write, F: Fn(&mut Line, u8)>(
         &mut self,
         store: &mut [u32],
         input: &mut R,
@@ -351,7 +358,7 @@ impl<E: Engine> Console<E> {
     }
 
     // A whole input. Where text could not be written, that is its end.
-    pub fn run<R: Read, W: Write, F: Fn(Line, u8) -> Line>(
+    pub fn run<R: Read, W: Write, F: Fn(&mut Line, u8)>(
         &mut self,
         input: &mut R,
         output: &mut W,
@@ -367,7 +374,7 @@ impl<E: Engine> Console<E> {
 
     // A whole input. Where text could not be written, the line that is open then is closed all the same, and what it prints
     // is tried to be written.
-    pub fn run_to_last<R: Read, W: Write, F: Fn(Line, u8) -> Line>(
+    pub fn run_to_last<R: Read, W: Write, F: Fn(&mut Line, u8)>(
         &mut self,
         input: &mut R,
         output: &mut W,

@@ -1,6 +1,5 @@
 -- `read_rows::take`: of an empty queue the last word is shown again.
-use Rattle.std.proofs.Common.{ℕ, ap, sym, ◌∙◌}
-use Rattle.ring.specs.declared.Words.{Words}
+use Rattle.std.proofs.Common.{rules, ℕ, ap, ◌∙◌}
 use Rattle.number.specs.Names as number
 use Rattle.model.specs.Decision.{unchanged, ◌with_value◌, ◌with_number◌}
 use Rattle.effect.specs.Seen.{seen}
@@ -13,5 +12,5 @@ returns-then-level-eq0 c = λ t f _.
     let a = c.args in
     let s = seen a.st t f in
     c.show_again.ensures t f
-    ∙ ap (λ (w : ℕ). (unchanged s with_value w with_number number.empty)) c.latest_of.ensures
-    ∙ empty_row a.q s (level_seen a.st t f a.q ∙ ap (λ (w : Words). w.0) (sym c.of-level.ensures) ∙ c.if-level-eq0.true)
+    ∙ ap (λ (w : ℕ). (unchanged s with_value w with_number number.empty)) (search rules)
+    ∙ empty_row a.q s (level_seen a.st t f a.q ∙ search rules)

@@ -14,7 +14,7 @@ ghost use Rattle.plain_console.specs.Console.{fresh_console};
 use bank::{Answer, Counts, Sizes};
 use model::Call;
 use plain_model::PlainBank;
-use trial_lines::{Console, Engine};
+use trial_lines::{Console, SpecifiedEngine};
 
 // A bank of the plain engine.
 #[derive(Clone, Copy)]
@@ -22,24 +22,24 @@ pub struct Plain {
     pub bank: PlainBank,
 }
 
-impl Engine for Plain {
+impl SpecifiedEngine for Plain {
     ghost caps_of = { λ e. e.bank.state.caps };
 
     ghost fresh = { λ caps marks id. let s = set_up caps marks id in answered s.answer (record { bank = headless s.bank }) };
 
     ghost stepped = { λ l call. let r = step plain (plain_lent l.engine.bank l.store l.output) call in answered r.answer (with_lent (record { bank = r.next.bank }) r.next.store r.next.output) };
 
-    fn caps(&self) -> Counts {
+    fn capacities(&self) -> Counts {
         self.bank.state.caps
     }
 
-    fn set_up(&mut self, caps: Sizes, marks: Sizes, id: u32) -> Answer {
+    fn set_up_anew(&mut self, caps: Sizes, marks: Sizes, id: u32) -> Answer {
         let s = setup::set_up(caps, marks, id);
         self.bank = plain::without_heads(s.bank);
         s.answer
     }
 
-    fn step(&mut self, store: &mut [u32], output: &mut [u32], call: Call) -> Answer {
+    fn make(&mut self, store: &mut [u32], output: &mut [u32], call: Call) -> Answer {
         let y = plain::step(self.bank, store, output, call);
         self.bank = y.bank;
         y.answer

@@ -10,7 +10,7 @@ ghost use Rattle.trial_lines.specs.Engines.{with_lent, answered};
 
 use bank::{Answer, Bank, Counts, Sizes};
 use model::Call;
-use trial_lines::{Console, Engine};
+use trial_lines::{Console, SpecifiedEngine};
 
 // A bank of the ring engine.
 #[derive(Clone, Copy)]
@@ -18,24 +18,24 @@ struct Rings {
     bank: Bank,
 }
 
-impl Engine for Rings {
+impl SpecifiedEngine for Rings {
     ghost caps_of = { λ e. e.bank.state.caps };
 
     ghost fresh = { λ caps marks id. let s = set_up caps marks id in answered s.answer (record { bank = s.bank }) };
 
     ghost stepped = { λ l call. let r = step rings (controller l.engine.bank l.store l.output) call in answered r.answer (with_lent (record { bank = r.next.bank }) r.next.store r.next.output) };
 
-    fn caps(&self) -> Counts {
+    fn capacities(&self) -> Counts {
         self.bank.state.caps
     }
 
-    fn set_up(&mut self, caps: Sizes, marks: Sizes, id: u32) -> Answer {
+    fn set_up_anew(&mut self, caps: Sizes, marks: Sizes, id: u32) -> Answer {
         let s = setup::set_up(caps, marks, id);
         self.bank = s.bank;
         s.answer
     }
 
-    fn step(&mut self, store: &mut [u32], output: &mut [u32], call: Call) -> Answer {
+    fn make(&mut self, store: &mut [u32], output: &mut [u32], call: Call) -> Answer {
         let out = controller::step(self.bank, store, output, call);
         self.bank = out.bank;
         out.answer

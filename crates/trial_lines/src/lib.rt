@@ -3,7 +3,7 @@
 // engine what `Engine` says.
 #![tactic(auto)]
 
-ghost use Rattle.std.specs.Prelude.{◌≡◌, ℕ, ◌+◌, ◌*◌, ◌≤◌, length, OnOk};
+ghost use Rattle.std.specs.Prelude.{◌≡◌, ⊤, ℕ, ◌+◌, ◌*◌, ◌≤◌, length, OnOk};
 ghost use Rattle.bank.specs.Fives.{Counts, Sizes};
 ghost use Rattle.model.specs.declared.Call.{Call};
 ghost use Rattle.model.specs.Engine.{Step};
@@ -214,9 +214,34 @@ pub fn put(answer: Option<Answer>, out: &mut [u8], at: usize) -> usize
 }
 
 // ── A console ──────────────────────────────────────────────────────────────────────────────────────────────────
-// A bank, and what makes calls on it.
+// A bank, and what makes calls on it. An engine says of each function what it may give, or nothing of it.
 pub trait Engine {
-    // What `caps` gives.
+    // What `caps` may give.
+    ghost has_caps: { Self → Counts → Type 0 } = { λ _ _. ⊤ };
+
+    // What a set-up may give.
+    ghost sets_up: { Self → Sizes → Sizes → ℕ → Step Self → Type 0 } = { λ _ _ _ _ _. ⊤ };
+
+    // What a call may give, with the store and the output that are lent to it.
+    ghost steps: { WithLent Self → Call → Step (WithLent Self) → Type 0 } = { λ _ _ _. ⊤ };
+
+    // The capacities of its queues.
+    fn caps(&self) -> Counts
+        ensures { has_caps self.now result };
+
+    // Another bank.
+    fn set_up(&mut self, caps: Sizes, marks: Sizes, id: u32) -> Answer
+        ensures { sets_up self.old caps marks id (answered result self.new) };
+
+    // A call, on the words that are lent.
+    fn step(&mut self, store: &mut [u32], output: &mut [u32], call: Call) -> Answer
+        ensures { steps (with_lent self.old store.old output.old) call (answered result (with_lent self.new store.new output.new)) };
+}
+
+// An engine of which each function gives one thing, whatever bank a set-up finds. Its functions have names of their own: at a
+// value of a type that has both traits, a call by a name of both is refused.
+pub trait SpecifiedEngine {
+    // What `capacities` gives.
     ghost caps_of: { Self → Counts };
 
     // What a set-up gives, whatever bank was there before.
@@ -226,16 +251,36 @@ pub trait Engine {
     ghost stepped: { WithLent Self → Call → Step (WithLent Self) };
 
     // The capacities of its queues.
-    fn caps(&self) -> Counts
+    fn capacities(&self) -> Counts
         ensures { result ≡ caps_of self.now };
 
     // Another bank.
-    fn set_up(&mut self, caps: Sizes, marks: Sizes, id: u32) -> Answer
+    fn set_up_anew(&mut self, caps: Sizes, marks: Sizes, id: u32) -> Answer
         ensures { answered result self.new ≡ fresh caps marks id };
 
     // A call, on the words that are lent.
-    fn step(&mut self, store: &mut [u32], output: &mut [u32], call: Call) -> Answer
+    fn make(&mut self, store: &mut [u32], output: &mut [u32], call: Call) -> Answer
         ensures { answered result (with_lent self.new store.new output.new) ≡ stepped (with_lent self.old store.old output.old) call };
+}
+
+impl<E: SpecifiedEngine> Engine for E {
+    ghost has_caps = { λ e k. k ≡ E.caps_of e };
+
+    ghost sets_up = { λ _ caps marks id s. s ≡ E.fresh caps marks id };
+
+    ghost steps = { λ l call s. s ≡ E.stepped l call };
+
+    fn caps(&self) -> Counts {
+        self.capacities()
+    }
+
+    fn set_up(&mut self, caps: Sizes, marks: Sizes, id: u32) -> Answer {
+        self.set_up_anew(caps, marks, id)
+    }
+
+    fn step(&mut self, store: &mut [u32], output: &mut [u32], call: Call) -> Answer {
+        self.make(store, output, call)
+    }
 }
 
 // An engine, the output that is lent to every call, and the line so far.
@@ -387,5 +432,58 @@ impl<E: Engine> Console<E> {
         let fed = self.feed_all(&mut store, input, output, eat);
         let last = self.write_last(&mut store, output);
         fed.and(last)
+    }
+}
+
+#[cfg(test)]
+mod tests {
+    use super::*;
+    use ring::Words;
+
+    // An engine that says nothing of what it gives: a set-up gives it a number, a call adds one and tells it, with how many
+    // words were lent.
+    #[derive(Clone, Copy)]
+    struct Counter {
+        number: u32,
+    }
+
+    impl Engine for Counter {
+        fn caps(&self) -> Counts {
+            Five::every(Words(1))
+        }
+
+        fn set_up(&mut self, _caps: Sizes, _marks: Sizes, id: u32) -> Answer {
+            self.number = id;
+            Answer::done(0)
+        }
+
+        fn step(&mut self, store: &mut [u32], output: &mut [u32], _call: Call) -> Answer {
+            self.number = self.number.wrapping_add(1);
+            Answer {
+                value: self.number,
+                number: ((store.len() + output.len()) % 100) as u32,
+            }
+        }
+    }
+
+    // Two calls; a set-up with the ID 0x10; three words lent, and a call; and one whose line has no end.
+    #[test]
+    fn console_of_any_engine(rt: HostRuntime) {
+        let mut console = Console::begin(Counter { number: 4 });
+        let mut store = [0u32; 9];
+        let mut out = [0u8; 1200];
+        let piece = b"S\nT\nB 1 1 1 1 1 1 1 1 1 1 10\nO 03\nS\nS";
+        let n = console.feed(
+            &mut store,
+            &|line: &mut Line, b: u8| *line = line.eat(b),
+            piece,
+            &mut out,
+        );
+        assert_eq!(rt;
+            &out[..n],
+            b"00000005 05\n00000006 05\n00000000 00\n00000011 08\n".as_slice()
+        );
+        let n = console.close(&mut store, &mut out);
+        assert_eq!(rt; &out[..n], b"00000012 08\n".as_slice());
     }
 }

@@ -263,6 +263,7 @@ pub trait SpecifiedEngine {
         ensures { answered result (with_lent self.new store.new output.new) ≡ stepped (with_lent self.old store.old output.old) call };
 }
 
+// What such an engine gives is all that it may give.
 impl<E: SpecifiedEngine> Engine for E {
     ghost has_caps = { λ e k. k ≡ E.caps_of e };
 
